@@ -1,0 +1,15 @@
+pub mod Ints
+pub mod Ring
+pub mod Order
+pub mod TableValue
+pub mod TableBound
+pub mod TableUnique
+pub mod Least
+pub mod Penalty
+pub mod Families
+pub mod Values
+pub mod RowAction
+pub mod RowTerms
+pub mod Runs
+pub mod RowShapes
+pub mod Turns

@@ -1,0 +1,5 @@
+pub mod Formula
+pub mod Table
+pub mod Norm
+pub mod Terms
+pub mod Rows
