@@ -5,7 +5,6 @@ use lib.IntN.{pos}
 use Rattle.qubo.specs.Formula.{Formula}
 use Rattle.qubo.specs.Terms.{pair}
 use Rattle.qubo.specs.Rows.{runOneHot}
-use Rattle.qubo.specs.declared.Run.{Run}
 
 -- the formula of document 01's listing (two meters, one link of weight 3, two channels; A = 4): 4 (1 - x₀ - x₁)² + 4 (1 - x₂ - x₃)² + 3 x₀x₂ + 3 x₁x₃
 unfoldable pub formula : Formula

@@ -1,6 +1,7 @@
 pub mod Ints
 pub mod Ring
 pub mod Order
+pub mod TableLists
 pub mod TableValue
 pub mod TableBound
 pub mod TableUnique

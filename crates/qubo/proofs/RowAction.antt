@@ -7,7 +7,7 @@ use native.Mathlib.Numerals.{add-one}
 use native.Mathlib.Omega.{arith}
 use native.Mathlib.Decide.{ℕ-discrete}
 use lib.ListN.{length, getD, set}
-use lib.IntN.{ℤ, pos, natAbs, _+ℤ_, +ℤ-idl, +ℤ-idr, +ℤ-assoc}
+use lib.IntN.{ℤ, pos, natAbs, _+ℤ_, +ℤ-idl, +ℤ-idr, +ℤ-assoc, +ℤ-comm}
 use Rattle.qubo.specs.Formula.{Term, Formula}
 use Rattle.qubo.specs.Table.{only, termSingle, termPair, cell, listOf, rowOf}
 use Rattle.qubo.specs.Norm.{formulaNorm}
@@ -86,6 +86,9 @@ cell-sum [] i (suc k) = refl
 cell-sum (t ∷ f) i zero = ap (λ z. termSingle t i +ℤ z) (cell-sum f i zero)
 cell-sum (t ∷ f) i (suc k) = ap (λ z. termPair t i (i + suc k) +ℤ z) (cell-sum f i (suc k))
 
+cell-append : (f g : Formula) (i k : ℕ) → cell (f ++ g) i k ≡ cell f i k +ℤ cell g i k
+cell-append f g i k = cell-sum (f ++ g) i k ∙ sumOver-append f g (λ t. termCell t i k) ∙ sym (ap₂ _+ℤ_ (cell-sum f i k) (cell-sum g i k))
+
 -- ---- the action
 pub add-none : (i : ℕ) (r : List ℤ) → addTerms [] i r ≡ r
 unfolding addTerms
@@ -97,15 +100,15 @@ add-one-term t i r = plus-eq r (cell (t ∷ []) i) (termCell t i) (λ k. cell-su
 
 pub add-append : (f g : Formula) (i : ℕ) (r : List ℤ) → addTerms (f ++ g) i r ≡ addTerms g i (addTerms f i r)
 unfolding addTerms
-add-append f g i r =
-    plus-eq r (cell (f ++ g) i) (λ k. cell f i k +ℤ cell g i k) (λ k. cell-sum (f ++ g) i k ∙ sumOver-append f g (λ t. termCell t i k) ∙ sym (ap₂ _+ℤ_ (cell-sum f i k) (cell-sum g i k)))
-    ∙ sym (plus-plus r (cell f i) (cell g i))
+add-append f g i r = plus-eq r (cell (f ++ g) i) (λ k. cell f i k +ℤ cell g i k) (cell-append f g i) ∙ sym (plus-plus r (cell f i) (cell g i))
+
+-- in either order
+pub add-swap : (f g : Formula) (i : ℕ) (r : List ℤ) → addTerms (f ++ g) i r ≡ addTerms (g ++ f) i r
+unfolding addTerms
+add-swap f g i r = plus-eq r (cell (f ++ g) i) (cell (g ++ f) i) (λ k. cell-append f g i k ∙ +ℤ-comm (cell f i k) (cell g i k) ∙ sym (cell-append g f i k))
 
 pub add-two : (s t : Term) (i : ℕ) (r : List ℤ) → addTerms (s ∷ t ∷ []) i r ≡ addTerms (t ∷ []) i (addTerms (s ∷ []) i r)
 add-two s t i r = add-append (s ∷ []) (t ∷ []) i r
-
-pub add-three : (s t u : Term) (i : ℕ) (r : List ℤ) → addTerms (s ∷ t ∷ u ∷ []) i r ≡ addTerms (u ∷ []) i (addTerms (t ∷ []) i (addTerms (s ∷ []) i r))
-add-three s t u i r = add-append (s ∷ []) (t ∷ u ∷ []) i r ∙ add-two t u i (addTerms (s ∷ []) i r)
 
 pub add-length : (f : Formula) (i : ℕ) (r : List ℤ) → length (addTerms f i r) ≡ length r
 unfolding addTerms
@@ -150,7 +153,7 @@ unfolding addTerms
 add-absent f i r h = plus-none r (cell f i) h
 
 pub absent-append : (f g : Formula) (i : ℕ) → Absent f i → Absent g i → Absent (f ++ g) i
-absent-append f g i h l k = cell-sum (f ++ g) i k ∙ sumOver-append f g (λ t. termCell t i k) ∙ sym (ap₂ _+ℤ_ (cell-sum f i k) (cell-sum g i k)) ∙ ap₂ _+ℤ_ (h k) (l k)
+absent-append f g i h l k = cell-append f g i k ∙ ap₂ _+ℤ_ (h k) (l k)
 
 pub absent-eachOf : (n : ℕ) (G : ℕ → Formula) (i : ℕ) → ((t : ℕ) → 1 ≤ t → t ≤ n → Absent (G t) i) → Absent (eachOf n G) i
 absent-eachOf zero G i h = cell-sum [] i

@@ -1,30 +1,30 @@
 -- The norm of a formula bounds what its table holds: the sum of the absolute values of its numbers, each number, and the value at every assignment.
 -- Assumes nothing.
-use mathlib.Core.Path.{_≡_, refl, sym, ap, ap₂, _∙_}
+use mathlib.Core.Path.{_≡_, refl, ap, ap₂, _∙_}
 use mathlib.Core.Bool.{Bool, true, false, cond}
 use mathlib.Core.List.{List, [], _∷_}
 use Prim.Native.Nat.{ℕ, zero, suc, _+_, _-_, _*_, _≤_, _<_}
-use native.Mathlib.Nat.{add-zero, zero-add, mul-le-mul, mul-le-mul-left}
+use native.Mathlib.Nat.{mul-le-mul, mul-le-mul-left}
 use native.Mathlib.Omega.{arith}
+use native.Mathlib.Decide.{decLt}
 use lib.Dec.{T, eqb, eqb→eq}
 use lib.ListN.{getD}
 use lib.IntN.{ℤ, pos, natAbs, _+ℤ_, _*ℤ_}
 use Rattle.qubo.specs.Formula.{Linear, Term, square, product, Formula, Bits, entriesValue, linearValue, termValue, value}
-use Rattle.qubo.specs.Table.{only, coef, coefficient, termConstant, termSingle, termPair, constantOf, singleOf, pairOf, cell, listOf, rowOf, tableOf, absSum, rowsAbs, tableAbs}
+use Rattle.qubo.specs.Table.{only, coef, coefficient, termConstant, termSingle, termPair, constantOf, singleOf, pairOf, cell, tableOf, absSum, rowsAbs, tableAbs, listOf, rowOf}
 use Rattle.qubo.specs.Norm.{entriesNorm, linearNorm, termNorm, formulaNorm}
 use Rattle.qubo.proofs.Ints.{natAbs-+ℤ, natAbs-*ℤ}
+use Rattle.qubo.proofs.TableLists.{from, rowsFrom, row-from, table-rows, from-at, list-at}
 use Rattle.qubo.proofs.TableValue.{only-other, single-square, pair-square}
 
 -- ---- the sums by functions, as in TableValue
 -- the absolute values of f at the n numbers from i on
-abbrev pub absFrom : (ℕ → ℤ) → ℕ → ℕ → ℕ
-absFrom f i zero = 0
-absFrom f i (suc n) = natAbs (f i) + absFrom f (suc i) n
+abbrev absFrom : (ℕ → ℤ) → ℕ → ℕ → ℕ
+absFrom f i n = absSum (from f i n)
 
 -- those of a table, over the n bits from i on
-abbrev pub absRows : (ℕ → ℤ) → (ℕ → ℕ → ℤ) → ℕ → ℕ → ℕ
-absRows s p i zero = 0
-absRows s p i (suc n) = natAbs (s i) + absFrom (p i) (suc i) n + absRows s p (suc i) n
+abbrev absRows : (ℕ → ℤ) → (ℕ → ℕ → ℤ) → ℕ → ℕ → ℕ
+absRows s p i n = rowsAbs (rowsFrom s p i n)
 
 -- ---- sums
 absFrom-zero : (i n : ℕ) → absFrom (λ j. pos 0) i n ≡ 0
@@ -98,7 +98,7 @@ absFrom-only m a i (suc n) = go (eqb m i) (eqb→eq m i) (absFrom-only m a (suc 
     go true e h = let k = e tt in omega (arith, absFrom-past m a (suc i) n (omega arith))
     go false e h = omega arith
 
-pub absFrom-coef : (ts : List (ℕ × ℤ)) (n : ℕ) → absFrom (coef ts) 0 n ≤ entriesNorm ts
+absFrom-coef : (ts : List (ℕ × ℤ)) (n : ℕ) → absFrom (coef ts) 0 n ≤ entriesNorm ts
 absFrom-coef [] n = omega (arith, absFrom-zero 0 n)
 absFrom-coef (t ∷ ts) n =
     omega (arith, absFrom-add (only (t .0) (t .1)) (coef ts) 0 n, absFrom-only (t .0) (t .1) 0 n, absFrom-coef ts n)
@@ -123,83 +123,52 @@ by-functions [] n = omega (arith, absRows-zero 0 n)
 by-functions (t ∷ f) n =
     omega (arith, natAbs-+ℤ (termConstant t) (constantOf f), absRows-add (termSingle t) (singleOf f) (termPair t) (pairOf f) 0 n, term-norm t n, by-functions f n)
 
--- ---- the same by lists
-abs-list : (g f : ℕ → ℤ) (s n : ℕ) → ((k : ℕ) → g k ≡ f (s + k)) → absSum (listOf n g) ≡ absFrom f s n
-abs-list g f s zero h = refl
-abs-list g f s (suc n) h =
-    ap₂ (λ (y : ℤ) (z : ℕ). natAbs y + z) (h 0 ∙ ap f (add-zero s))
-    (abs-list (λ k. g (suc k)) f (suc s) n (λ k. h (suc k) ∙ ap f (let e : s + suc k ≡ suc s + k = omega arith in e)))
-
-rows-list : (f : Formula) (bits i n : ℕ) (R : ℕ → List ℤ) → bits ≡ i + n → ((k : ℕ) → R k ≡ rowOf f bits (i + k)) → rowsAbs (listOf n R) ≡ absRows (singleOf f) (pairOf f) i n
-unfolding rowOf
-rows-list f bits i zero R e h = refl
-rows-list f bits i (suc n) R e h =
-    ap₂ _+_ (ap absSum (h 0 ∙ ap (rowOf f bits) (add-zero i)) ∙ own)
-    (rows-list f bits (suc i) n (λ k. R (suc k)) (omega arith) (λ k. h (suc k) ∙ ap (rowOf f bits) (let d : i + suc k ≡ suc i + k = omega arith in d)))
-  where
-    size : bits - i ≡ suc n
-    size = omega arith
-
-    own : absSum (rowOf f bits i) ≡ natAbs (singleOf f i) + absFrom (pairOf f i) (suc i) n
-    own = ap (λ (m : ℕ). absSum (listOf m (cell f i))) size
-        ∙ ap (λ (m : ℕ). natAbs (singleOf f i) + m) (abs-list (λ k. cell f i (suc k)) (pairOf f i) (suc i) n (λ k. ap (pairOf f i) (let d : i + suc k ≡ suc i + k = omega arith in d)))
-
 -- the sum of the absolute values of the table's numbers is at most the norm
 pub table-bound : (f : Formula) (n : ℕ) → tableAbs (tableOf f n) ≤ formulaNorm f
 unfolding tableOf
-table-bound f n =
-    omega (arith, by-functions f n, rows-list f n 0 n (rowOf f n) (sym (zero-add n)) (λ k. ap (rowOf f n) (sym (zero-add k))))
+table-bound f n = omega (arith, by-functions f n, ap rowsAbs (table-rows f n))
 
--- ---- each number of the table
-pub absFrom-at : (f : ℕ → ℤ) (i n k : ℕ) → k < n → natAbs (f (i + k)) ≤ absFrom f i n
-absFrom-at f i zero k h = let z : ⊥ = omega arith in absurd z
-absFrom-at f i (suc n) zero h = let e : i + 0 ≡ i = omega arith in omega (arith, ap (λ (m : ℕ). natAbs (f m)) e)
-absFrom-at f i (suc n) (suc k) h =
-    let e : i + suc k ≡ suc i + k = omega arith in
-    omega (arith, ap (λ (m : ℕ). natAbs (f m)) e, absFrom-at f (suc i) n k (omega arith))
-
-absRows-single : (s : ℕ → ℤ) (p : ℕ → ℕ → ℤ) (i n k : ℕ) → k < n → natAbs (s (i + k)) ≤ absRows s p i n
-absRows-single s p i zero k h = let z : ⊥ = omega arith in absurd z
-absRows-single s p i (suc n) zero h = let e : i + 0 ≡ i = omega arith in omega (arith, ap (λ (m : ℕ). natAbs (s m)) e)
-absRows-single s p i (suc n) (suc k) h =
-    let e : i + suc k ≡ suc i + k = omega arith in
-    omega (arith, ap (λ (m : ℕ). natAbs (s m)) e, absRows-single s p (suc i) n k (omega arith))
-
-absRows-pair : (s : ℕ → ℤ) (p : ℕ → ℕ → ℤ) (i n k l : ℕ) → suc k + l < n → natAbs (p (i + k) (suc (i + k) + l)) ≤ absRows s p i n
-absRows-pair s p i zero k l h = let z : ⊥ = omega arith in absurd z
-absRows-pair s p i (suc n) zero l h =
-    let e : i + 0 ≡ i = omega arith in
-    omega (arith, ap (λ (m : ℕ). natAbs (p m (suc m + l))) e, absFrom-at (p i) (suc i) n l (omega arith))
-absRows-pair s p i (suc n) (suc k) l h =
-    let e : i + suc k ≡ suc i + k = omega arith in
-    omega (arith, ap (λ (m : ℕ). natAbs (p m (suc m + l))) e, absRows-pair s p (suc i) n k l (omega arith))
-
+-- ---- the constant, each row and each number
 pub constant-bound : (f : Formula) → natAbs (constantOf f) ≤ formulaNorm f
 constant-bound f = omega (arith, by-functions f 0)
 
-pub single-bound : (f : Formula) (i : ℕ) → natAbs (singleOf f i) ≤ formulaNorm f
-single-bound f i =
-    let e : 0 + i ≡ i = omega arith in
-    omega (arith, by-functions f (suc i), ap (λ (m : ℕ). natAbs (singleOf f m)) e, absRows-single (singleOf f) (pairOf f) 0 (suc i) i (omega arith))
+absRows-row : (s : ℕ → ℤ) (p : ℕ → ℕ → ℤ) (i n k : ℕ) → absSum (s (i + k) ∷ from (p (i + k)) (suc (i + k)) n) ≤ absRows s p i (k + suc n)
+absRows-row s p i n zero = let e : i + 0 ≡ i = omega arith in let d : 0 + suc n ≡ suc n = omega arith in rw (e, d) (omega arith)
+absRows-row s p i n (suc k) =
+    let e : i + suc k ≡ suc i + k = omega arith in
+    let d : suc k + suc n ≡ suc (k + suc n) = omega arith in
+    rw (e, d) (omega (arith, absRows-row s p (suc i) n k))
 
-pub pair-bound : (f : Formula) (i j : ℕ) → i < j → natAbs (pairOf f i j) ≤ formulaNorm f
-pair-bound f i j h = omega (arith, by-functions f (suc j), ap₂ (λ (k l : ℕ). natAbs (pairOf f k l)) e d, absRows-pair (singleOf f) (pairOf f) 0 (suc j) i (j - suc i) (omega arith))
-  where
-    e : 0 + i ≡ i
-    e = omega arith
+pub row-bound : (f : Formula) (bits i : ℕ) → absSum (rowOf f bits i) ≤ formulaNorm f
+unfolding rowOf
+row-bound f bits i = elim (decLt i bits) [
+  | yes h ↦ (let n = bits - suc i in let e : bits ≡ i + suc n = omega arith in let z : 0 + i ≡ i = omega arith in
+      omega (
+        arith,
+        by-functions f (i + suc n),
+        ap absSum (row-from f bits i n e),
+        ap (λ (j : ℕ). absSum (singleOf f j ∷ from (pairOf f j) (suc j) n)) z,
+        absRows-row (singleOf f) (pairOf f) 0 n i,
+      ))
+  | no h ↦ (let e : bits - i ≡ 0 = omega arith in omega (arith, ap (λ (m : ℕ). absSum (listOf m (cell f i))) e))
+]
 
-    d : suc (0 + i) + (j - suc i) ≡ j
-    d = omega arith
+absSum-at : (r : List ℤ) (k : ℕ) → natAbs (getD r k (pos 0)) ≤ absSum r
+absSum-at [] k = omega arith
+absSum-at (q ∷ r) zero = omega arith
+absSum-at (q ∷ r) (suc k) = omega (arith, absSum-at r k)
 
 pub cell-bound : (f : Formula) (i k : ℕ) → natAbs (cell f i k) ≤ formulaNorm f
-cell-bound f i zero = single-bound f i
-cell-bound f i (suc k) = pair-bound f i (i + suc k) (omega arith)
+unfolding rowOf
+cell-bound f i k =
+    let e : i + suc k - i ≡ suc k = omega arith in
+    omega (arith, row-bound f (i + suc k) i, ap (λ (m : ℕ). absSum (listOf m (cell f i))) e, absSum-at (listOf (suc k) (cell f i)) k, ap natAbs (list-at (cell f i) (suc k) k (omega arith)))
 
 -- a linear form's coefficient
 pub coef-bound : (es : List (ℕ × ℤ)) (i : ℕ) → natAbs (coef es i) ≤ entriesNorm es
 coef-bound es i =
     let e : 0 + i ≡ i = omega arith in
-    omega (arith, absFrom-coef es (suc i), ap (λ (m : ℕ). natAbs (coef es m)) e, absFrom-at (coef es) 0 (suc i) i (omega arith))
+    omega (arith, absFrom-coef es (suc i), ap (λ (m : ℕ). natAbs (coef es m)) e, absSum-at (from (coef es) 0 (suc i)) i, ap natAbs (from-at (coef es) 0 (suc i) i (omega arith)))
 
 -- ---- the value
 bit-abs : (y : ℕ) (z : ℤ) → y ≤ 1 → natAbs (z *ℤ pos y) ≤ natAbs z
@@ -221,7 +190,7 @@ times-bound a k l x h =
       mul-le-mul-left (natAbs a) (mul-le-mul (linear-bound k x h) (linear-bound l x h)),
     )
 
-pub term-value-bound : (t : Term) (x : List ℕ) → Bits x → natAbs (termValue t x) ≤ termNorm t
+term-value-bound : (t : Term) (x : List ℕ) → Bits x → natAbs (termValue t x) ≤ termNorm t
 term-value-bound (square a l) x h = times-bound a l l x h
 term-value-bound (product a k l) x h = times-bound a k l x h
 

@@ -1,30 +1,29 @@
 -- The energy of a formula's table is the formula's value at every assignment.
--- A table is first taken as two functions, s i for the number of bit i and p i j for that of a pair; the lists come last.
+-- A table is first taken as two functions, s i for the number of bit i and p i j for that of a pair; TableLists has the lists.
 -- Assumes nothing.
 use mathlib.Core.Path.{_≡_, refl, sym, ap, ap₂, _∙_, fun-ext}
 use mathlib.Core.Bool.{Bool, true, false, cond}
 use mathlib.Core.List.{List, [], _∷_}
-use Prim.Native.Nat.{ℕ, zero, suc, _+_, _-_, _≤_, _<_}
+use Prim.Native.Nat.{ℕ, zero, suc, _+_, _≤_, _<_}
 use native.Mathlib.Nat.{add-zero, zero-add}
 use native.Mathlib.Omega.{arith}
 use lib.Dec.{T, eqb, eqb→eq, eqb-refl}
 use lib.ListN.{length, getD}
 use lib.IntN.{ℤ, pos, _+ℤ_, _*ℤ_, +ℤ-idl, +ℤ-idr, *ℤ-comm, *ℤ-zero}
 use Rattle.qubo.proofs.Ints.{ℤ·ring}
+use Rattle.qubo.proofs.TableLists.{from, rowsFrom, table-rows}
 use Rattle.qubo.proofs.Ring.{var, con, _⊕_, _⊗_, solve, solveBits}
 use Rattle.qubo.specs.Formula.{Linear, Term, square, product, Formula, Bits, Assignment, entriesValue, termValue, value}
-use Rattle.qubo.specs.Table.{dot, rowEnergy, rowsEnergy, energy, only, coef, coefficient, termConstant, termSingle, termPair, constantOf, singleOf, pairOf, cell, listOf, rowOf, tableOf}
+use Rattle.qubo.specs.Table.{dot, rowsEnergy, energy, only, coef, coefficient, termConstant, termSingle, termPair, constantOf, singleOf, pairOf, tableOf}
 
--- ---- the energy by functions
--- Σ x_j · f j, where the list holds the bits from i on
-abbrev pub row : (ℕ → ℤ) → ℕ → List ℕ → ℤ
-row f i [] = pos 0
-row f i (b ∷ x) = pos b *ℤ f i +ℤ row f (suc i) x
+-- ---- the energy by functions, where the list holds the bits from i on
+-- Σ x_j · f j
+abbrev row : (ℕ → ℤ) → ℕ → List ℕ → ℤ
+row f i x = dot (from f i (length x)) x
 
--- Σ x_i · (s i + Σ_{j > i} x_j · p i j), where the list holds the bits from i on
-abbrev pub rows : (ℕ → ℤ) → (ℕ → ℕ → ℤ) → ℕ → List ℕ → ℤ
-rows s p i [] = pos 0
-rows s p i (b ∷ x) = pos b *ℤ (s i +ℤ row (p i) (suc i) x) +ℤ rows s p (suc i) x
+-- Σ x_i · (s i + Σ_{j > i} x_j · p i j)
+abbrev rows : (ℕ → ℤ) → (ℕ → ℕ → ℤ) → ℕ → List ℕ → ℤ
+rows s p i x = rowsEnergy (rowsFrom s p i (length x)) x
 
 bit-square : (y : ℕ) → y ≤ 1 → pos y *ℤ pos y ≡ pos y
 bit-square zero h = refl
@@ -150,31 +149,9 @@ by-functions (t ∷ f) x h =
     (termConstant t ∷ constantOf f ∷ rows (termSingle t) (termPair t) 0 x ∷ rows (singleOf f) (pairOf f) 0 x ∷ [])
     ∙ ap₂ _+ℤ_ (term-table t x h) (by-functions f x h)
 
--- ---- the same by lists
-dot-row : (g f : ℕ → ℤ) (s : ℕ) (x : List ℕ) → ((k : ℕ) → g k ≡ f (s + k)) → dot (listOf (length x) g) x ≡ row f s x
-dot-row g f s [] h = refl
-dot-row g f s (b ∷ x) h =
-    ap₂ (λ y z. pos b *ℤ y +ℤ z) (h 0 ∙ ap f (add-zero s))
-    (dot-row (λ k. g (suc k)) f (suc s) x (λ k. h (suc k) ∙ ap f (let e : s + suc k ≡ suc s + k = omega arith in e)))
-
--- the rows from i on, where x holds the bits from i on
-rows-lists : (f : Formula) (bits i : ℕ) (x : List ℕ) (R : ℕ → List ℤ) → bits ≡ i + length x → ((k : ℕ) → R k ≡ rowOf f bits (i + k)) → rowsEnergy (listOf (length x) R) x ≡ rows (singleOf f) (pairOf f) i x
-unfolding rowOf
-rows-lists f bits i [] R e h = refl
-rows-lists f bits i (b ∷ x) R e h =
-    ap₂ _+ℤ_ (ap (λ (r : List ℤ). rowEnergy r (b ∷ x)) (h 0 ∙ ap (rowOf f bits) (add-zero i)) ∙ own)
-    (rows-lists f bits (suc i) x (λ k. R (suc k)) (omega arith) (λ k. h (suc k) ∙ ap (rowOf f bits) (let d : i + suc k ≡ suc i + k = omega arith in d)))
-  where
-    n : bits - i ≡ suc (length x)
-    n = omega arith
-
-    own : rowEnergy (rowOf f bits i) (b ∷ x) ≡ pos b *ℤ (singleOf f i +ℤ row (pairOf f i) (suc i) x)
-    own = ap (λ (m : ℕ). rowEnergy (listOf m (cell f i)) (b ∷ x)) n
-        ∙ ap (λ z. pos b *ℤ (singleOf f i +ℤ z)) (dot-row (λ k. cell f i (suc k)) (pairOf f i) (suc i) x (λ k. ap (pairOf f i) (let d : i + suc k ≡ suc i + k = omega arith in d)))
-
 pub table-value : (f : Formula) (n : ℕ) (x : List ℕ) → Assignment n x → energy (tableOf f n) x ≡ value f x
 unfolding tableOf
 table-value f n x h =
-    ap (λ (m : ℕ). constantOf f +ℤ rowsEnergy (listOf m (rowOf f n)) x) (sym (h .size))
-    ∙ ap (λ z. constantOf f +ℤ z) (rows-lists f n 0 x (rowOf f n) (sym (zero-add (length x) ∙ h .size)) (λ k. ap (rowOf f n) (sym (zero-add k))))
+    ap (λ (rs : List (List ℤ)). constantOf f +ℤ rowsEnergy rs x) (table-rows f n)
+    ∙ ap (λ (m : ℕ). constantOf f +ℤ rowsEnergy (rowsFrom (singleOf f) (pairOf f) 0 m) x) (sym (h .size))
     ∙ by-functions f x (h .bits)
