@@ -114,6 +114,10 @@ pub add-length : (f : Formula) (i : ℕ) (r : List ℤ) → length (addTerms f i
 unfolding addTerms
 add-length f i r = plus-length r (cell f i)
 
+-- so a table keeps its bit count
+pub add-top : (f : Formula) (i : ℕ) (r s : List ℤ) → s ≡ addTerms f i r → i + length r ≡ i + length s
+add-top f i r s e = omega (arith, ap length e ∙ add-length f i r)
+
 -- a loop's turns, over F 1, F 2, .. and over a list
 pub add-turn : (G : ℕ → Formula) (t i : ℕ) (r : List ℤ) → addTerms (G (t + 1)) i (addTerms (eachOf t G) i r) ≡ addTerms (eachOf (t + 1) G) i r
 add-turn G t i r = rw (add-one t) (sym (add-append (eachOf t G) (G (suc t)) i r))

@@ -1,25 +1,18 @@
-use mathlib.Core.Path.{_≡_, refl, sym, ap, _∙_}
-use mathlib.Core.List.{List, [], _∷_}
-use Prim.Native.Nat.{ℕ, _+_}
+use mathlib.Core.Path.{_≡_, refl, sym, _∙_}
+use mathlib.Core.List.{[], _∷_}
 use native.Mathlib.Nat.{le-refl}
 use native.Mathlib.Omega.{arith}
 use mir.Facts.{toZ-ofZ}
 use borrow.Author.Needs.{needs}
-use lib.IntN.{ℤ, pos, natAbs, _*ℤ_}
-use lib.ListN.{length}
-use Rattle.qubo.specs.Formula.{Term}
+use lib.IntN.{pos, natAbs, _*ℤ_}
 use Rattle.qubo.specs.Terms.{single, times}
 use Rattle.qubo.specs.Rows.{addTerms, runSum, later}
-use Rattle.qubo.proofs.RowAction.{add-length}
+use Rattle.qubo.proofs.RowAction.{add-top}
 use Rattle.qubo.proofs.RowShapes.{difference-row}
 use Rattle.qubo.proofs.Runs.{number-inside, number-step, later-below, run-same-top}
 use Rattle.qubo.proofs.Turns.{fits-twice, fits-less-twice, twice-abs, less-twice-abs, difference-factor, difference-parts, first-room, second-room, third-room}
 use Rattle.qubo.proofs.add_own_difference.Statement.{statement}
 use Rattle.qubo.proofs.add_own_difference.Tie as tie
-
--- a row keeps its length, so a run stays below the bit count
-same-top : (i : ℕ) (r s : List ℤ) (t : Term) → s ≡ addTerms (t ∷ []) i r → i + length r ≡ i + length s
-same-top i r s t e = omega (arith, ap length e ∙ add-length (t ∷ []) i r)
 
 mul-same : tie.Need-mul-same
 mul-same c = rw (toZ-ofZ (c .fits .a)) (fits-twice _ (c .args .a) tt (difference-factor (c .args .a) (c .args .own) (c .args .other) (c .args .i) (c .args .t) (c .args .row .now) (c .pre .0 .0) (c .pre .1 .2)))
@@ -49,7 +42,7 @@ add-run-requires c κs =
     let i = s .args .i in
     let rest = later (s .args .own) i (s .args .t) in
     let e : d .add-single .last .0 ≡ addTerms (single a i ∷ []) i (s .args .row .now) = d .add-single .ensures ∙ rw (toZ-ofZ (s .fits .a)) refl in (
-      rw (d .before .before .after .ensures) (run-same-top rest _ _ (same-top i (s .args .row .now) _ (single a i) e) (later-below (s .args .own) i (s .args .t) _ (s .pre .1 .0) (s .pre .0 .0))),
+      rw (d .before .before .after .ensures) (run-same-top rest _ _ (add-top (single a i ∷ []) i (s .args .row .now) _ e) (later-below (s .args .own) i (s .args .t) _ (s .pre .1 .0) (s .pre .0 .0))),
       rw (toZ-ofZ (mul-same s), toZ-ofZ (s .fits .a), e, d .before .before .after .ensures)
           (second-room a _ (pos 0) i rest (s .args .other) (s .args .row .now) (difference-parts a a _ (pos 0) (s .args .own) (s .args .other) i (s .args .t) (s .args .row .now) (s .pre .0 .0) (s .pre .1 .2) (le-refl (natAbs a)) (twice-abs _ a tt) (omega arith))),
     )
@@ -64,7 +57,7 @@ add-run-requires-2 c κs =
     let e : d .add-single .last .0 ≡ addTerms (single a i ∷ []) i (s .args .row .now) = d .add-single .ensures ∙ rw (toZ-ofZ (s .fits .a)) refl in
     let g : c .before .before .add-run .last .0 ≡ addTerms (times (pos 2 *ℤ a) i (runSum rest) ∷ []) i (addTerms (single a i ∷ []) i (s .args .row .now)) =
     c .before .before .add-run .ensures ∙ rw (toZ-ofZ (mul-same s), toZ-ofZ (s .fits .a), e, d .before .before .after .ensures) refl in (
-      run-same-top (s .args .other) _ _ (same-top i (s .args .row .now) _ (single a i) refl ∙ same-top i (addTerms (single a i ∷ []) i (s .args .row .now)) _ (times (pos 2 *ℤ a) i (runSum rest)) g) (s .pre .1 .1),
+      run-same-top (s .args .other) _ _ (add-top (single a i ∷ []) i (s .args .row .now) _ refl ∙ add-top (times (pos 2 *ℤ a) i (runSum rest) ∷ []) i (addTerms (single a i ∷ []) i (s .args .row .now)) _ g) (s .pre .1 .1),
       rw (toZ-ofZ (sub-opposite s), toZ-ofZ (mul-same s), toZ-ofZ (s .fits .a), g)
           (third-room a (pos 2 *ℤ a) _ i rest (s .args .other) (s .args .row .now) (difference-parts a a (pos 2 *ℤ a) _ (s .args .own) (s .args .other) i (s .args .t) (s .args .row .now) (s .pre .0 .0) (s .pre .1 .2) (le-refl (natAbs a)) (twice-abs 2 a tt) (less-twice-abs _ a tt))),
     )

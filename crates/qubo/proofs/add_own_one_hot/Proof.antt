@@ -1,14 +1,12 @@
-use mathlib.Core.Path.{_≡_, refl, sym, ap, _∙_}
+use mathlib.Core.Path.{_≡_, refl, sym, _∙_}
 use mathlib.Core.List.{[], _∷_}
-use Prim.Native.Nat.{_+_}
 use native.Mathlib.Omega.{arith}
 use mir.Facts.{toZ-ofZ}
 use borrow.Author.Needs.{needs}
 use lib.IntN.{pos, _-ℤ_}
-use lib.ListN.{length}
 use Rattle.qubo.specs.Terms.{single}
 use Rattle.qubo.specs.Rows.{addTerms, later}
-use Rattle.qubo.proofs.RowAction.{add-length}
+use Rattle.qubo.proofs.RowAction.{add-top}
 use Rattle.qubo.proofs.RowShapes.{one-hot-row}
 use Rattle.qubo.proofs.Runs.{number-inside, number-step, later-below, run-same-top}
 use Rattle.qubo.proofs.Turns.{fits-less, fits-twice, less-abs, twice-abs, one-hot-factor, one-hot-parts, emptyRun, first-room, second-room}
@@ -41,7 +39,7 @@ add-run-requires c κs =
     let i = s .args .i in
     let rest = later (s .args .run) i (s .args .t) in
     let e : d .add-single .last .0 ≡ addTerms (single (pos 0 -ℤ a) i ∷ []) i (s .args .row .now) = d .add-single .ensures ∙ rw (toZ-ofZ (sub-less s), toZ-ofZ (s .fits .a)) refl in
-    let top : i + length (s .args .row .now) ≡ i + length (d .add-single .last .0) = omega (arith, ap length e ∙ add-length (single (pos 0 -ℤ a) i ∷ []) i (s .args .row .now)) in (
+    let top = add-top (single (pos 0 -ℤ a) i ∷ []) i (s .args .row .now) _ e in (
       rw (d .before .before .after .ensures) (run-same-top rest _ _ top (later-below (s .args .run) i (s .args .t) _ (s .pre .1) (s .pre .0))),
       rw (toZ-ofZ (mul-twice s), toZ-ofZ (s .fits .a), e, d .before .before .after .ensures)
           (second-room (pos 0 -ℤ a) _ (pos 0) i rest emptyRun (s .args .row .now) (one-hot-parts a (pos 0 -ℤ a) _ (s .args .run) i (s .args .t) (s .args .row .now) (s .pre .2) (omega (arith, less-abs a)) (twice-abs _ a tt))),
