@@ -1,0 +1,83 @@
+-- Laws of tests, alone and over lists. Assumes nothing.
+use Prim.Native.Nat.{ℕ, zero, suc}
+use mathlib.Core.Bool.{Bool, true, false, _&&_, _||_, true≢false, false≢true}
+use mathlib.Core.Path.{_≡_, refl, sym, ap}
+use mathlib.Core.List.{List, [], _∷_, _++_}
+use lib.ListN.{length, getD}
+use lib.Dec.{eqb}
+use borrow.Author.Tests.{eqb-true, eqb-false}
+use Rattle.links.specs.Tests.{every, all, from}
+
+-- ---- both, either
+
+pub and-left : (a b : Bool) → (a && b) ≡ true → a ≡ true
+and-left true b e = refl
+and-left false b e = e
+
+pub and-right : (a b : Bool) → (a && b) ≡ true → b ≡ true
+and-right true b e = e
+and-right false b e = absurd (false≢true e)
+
+pub and-both : (a b : Bool) → a ≡ true → b ≡ true → (a && b) ≡ true
+and-both a b e f = rw (e, f)
+
+pub and-true : (b : Bool) → (b && true) ≡ b
+and-true true = refl
+and-true false = refl
+
+pub or-left : (a b : Bool) → (a || b) ≡ false → a ≡ false
+or-left true b e = e
+or-left false b e = refl
+
+pub or-right : (a b : Bool) → (a || b) ≡ false → b ≡ false
+or-right true b e = absurd (true≢false e)
+or-right false b e = e
+
+-- two tests that imply each other are one
+pub same-test : (a b : Bool) → (a ≡ true → b ≡ true) → (b ≡ true → a ≡ true) → a ≡ b
+same-test true b f g = sym (f refl)
+same-test false true f g = g refl
+same-test false false f g = refl
+
+-- an equation of numbers, or its refutation
+pub data Equal (a b : ℕ) : Type 0 where
+  equal : a ≡ b → Equal a b
+  other : (a ≡ b → ⊥) → Equal a b
+
+pub equal? : (a b : ℕ) → Equal a b
+equal? a b = go (eqb a b) refl
+  where
+    go : (t : Bool) → eqb a b ≡ t → Equal a b
+    go true e = equal (eqb-true a b e)
+    go false e = other (eqb-false a b e)
+
+-- ---- over lists
+
+pub every-at : (ts : List Bool) (i : ℕ) → every ts ≡ true → getD ts i true ≡ true
+unfolding every
+every-at [] i e = refl
+every-at (t ∷ ts) zero e = and-left t _ e
+every-at (t ∷ ts) (suc i) e = every-at ts i (and-right t _ e)
+
+module _ {A : Type 0} (p : A → Bool) where
+  pub all-head : (x : A) (xs : List A) → all p (x ∷ xs) ≡ true → p x ≡ true
+  unfolding all
+  all-head x xs e = and-left (p x) _ e
+
+  pub all-tail : (x : A) (xs : List A) → all p (x ∷ xs) ≡ true → all p xs ≡ true
+  unfolding all
+  all-tail x xs e = and-right (p x) _ e
+
+  pub all-cons : (x : A) (xs : List A) → p x ≡ true → all p xs ≡ true → all p (x ∷ xs) ≡ true
+  unfolding all
+  all-cons x xs e f = and-both (p x) _ e f
+
+  pub all-append : (xs ys : List A) → all p xs ≡ true → all p ys ≡ true → all p (xs ++ ys) ≡ true
+  unfolding all
+  all-append [] ys e f = f
+  all-append (x ∷ xs) ys e f = and-both (p x) _ (and-left (p x) _ e) (all-append xs ys (and-right (p x) _ e) f)
+
+pub length-from : (a n : ℕ) → length (from a n) ≡ n
+unfolding from
+length-from a zero = refl
+length-from a (suc n) = ap suc (length-from (suc a) n)

@@ -1,0 +1,15 @@
+pub mod Chain
+pub mod Walked
+pub mod Valid
+pub mod Placed
+pub mod Refused
+pub mod Stores
+pub mod Stored
+pub mod Relinked
+pub mod AddKeeps
+pub mod RemoveKeeps
+pub mod Begun
+pub mod Turns
+pub mod Filling
+pub mod Calls
+pub mod Images

@@ -1,0 +1,175 @@
+-- Laws that only the proofs of src/ cite: what a turn of a loop or a test leaves. Assumes nothing.
+use Prim.Native.Nat.{ℕ, zero, suc, _+_, _-_, _≤_, _<_}
+use mathlib.Core.Bool.{Bool, true, false, _&&_, _||_}
+use mathlib.Core.Path.{_≡_, refl, sym, ap, _∙_}
+use mathlib.Core.List.{List, [], _∷_, _++_, append-assoc, append-nil}
+use lib.ListN.{length, getD, set, drop, length-replicate, drop-of-length-le}
+use lib.Seq.{drop-cons, set-at}
+use lib.Dec.{leb, ltb, eqb}
+use borrow.Author.Tests.{eq-eqb, ne-eqb, le-leb}
+use native.Mathlib.Omega.{arith}
+use native.Mathlib.Nat.{not-suc-le-zero}
+use native.Mathlib.Numerals.{add-one, sub-one}
+use Rattle.links.specs.Tests.{every, some, all, from}
+use Rattle.links.specs.Links.{linkOk, before, hasEnds, badEnds}
+use Rattle.links.proofs.Tests.{and-left, and-true}
+use Rattle.site.specs.Layout.{SIZE, RECORDS, METERS, metersAt, recordAt, meters, first, freeAt, countAt, firstFree, count, setWord, setRecord, byte, word, endU, endV, weight, next, pad}
+use Rattle.site.specs.Image.{zeroAt, linkAt, padZero, freeOk, named, valid}
+use Rattle.site.specs.Walks.{linkFits, isLink, headOk, walkLinks, walkFree}
+use Rattle.site.proofs.Chain.{named-high}
+use Rattle.site.proofs.Walked.{checks-walks}
+use Rattle.site.proofs.Valid.{valid-checks}
+use Rattle.site.specs.Edits.{goesOn, after, slot, place, zeros, chained, addBytes, removeBytes}
+
+-- ---- src/fields.rt
+
+-- the numbers a, b, w, x and z are those of record k
+abbrev pub Fields : List ℕ → ℕ → ℕ → ℕ → ℕ → ℕ → ℕ → Type 0
+Fields s k a b w x z = (a ≡ endU s k) × (b ≡ endV s k) × (w ≡ weight s k) × (x ≡ next s k) × (z ≡ pad s k)
+
+-- the fields of a record, read where they stand
+pub fields-read : (s : List ℕ) (k i a b w x z : ℕ) → i ≡ recordAt k → a ≡ getD s i 0 → b ≡ getD s (i + 1) 0 → w ≡ word s (i + 2) → x ≡ word s (i + 4) → z ≡ word s (i + 6) → Fields s k a b w x z
+unfolding endU endV weight next pad byte
+fields-read s k i a b w x z e f g h j l = (f ∙ rw e, g ∙ rw e, h ∙ rw e, j ∙ rw e, l ∙ rw e)
+
+-- the stores of a record, one after the other
+pub record-steps : (s s₁ s₂ : List ℕ) (k i a b w x : ℕ) → i ≡ recordAt k → s₁ ≡ setWord (set (set s i a) (i + 1) b) (i + 2) w → s₂ ≡ setWord s₁ (i + 4) x → s₂ ≡ setRecord s k a b w x
+unfolding setRecord
+record-steps s s₁ s₂ k i a b w x e f g = g ∙ rw (f, e)
+
+-- the record after p, read by way of its slot
+pub after-read : (s : List ℕ) (p i q : ℕ) → i ≡ slot p → q ≡ word s i → q ≡ after s p
+unfolding after
+after-read s p i q e f = f ∙ rw e
+
+-- ---- src/rules.rt
+
+-- zero bytes from byte i on: a turn of the loop
+module _ (s : List ℕ) (i : ℕ) where
+  -- a byte that is not zero
+  pub zero-bad : (n : ℕ) → 0 < n → (byte s i ≡ 0 → ⊥) → all (zeroAt s) (from i n) ≡ false
+  unfolding all from zeroAt
+  zero-bad zero h e = absurd (not-suc-le-zero h)
+  zero-bad (suc n) h e = rw (ne-eqb (byte s i) 0 e)
+
+  -- one that is
+  pub zero-on : (n : ℕ) → 0 < n → byte s i ≡ 0 → all (zeroAt s) (from i n) ≡ all (zeroAt s) (from (i + 1) (n - 1))
+  unfolding all from zeroAt
+  zero-on zero h e = absurd (not-suc-le-zero h)
+  zero-on (suc n) h e = rw (eq-eqb (byte s i) 0 e, add-one i, sub-one (suc n))
+
+  -- none left
+  pub zero-end : (n : ℕ) → n ≤ 0 → all (zeroAt s) (from i n) ≡ true
+  unfolding all from
+  zero-end zero h = refl
+  zero-end (suc n) h = absurd (not-suc-le-zero h)
+
+-- the header, by its tests
+pub head-test : (s : List ℕ) (m : ℕ) {z h n p : Bool} → m ≡ byte s metersAt → z ≡ all (zeroAt s) (from 8 8) → h ≡ (eqb (getD s 1 0) 0 && z) → n ≡ (leb 1 m && leb m METERS) → p ≡ (h && n) → p ≡ headOk s
+unfolding headOk all zeroAt byte meters
+head-test s m e f g h k = k ∙ rw (g, h, f, e)
+
+-- a weight of two bytes needs no test
+pub two-bytes : (n a b w : ℕ) → w < 65536 → linkOk n (record { u = a; v = b; weight = w }) ≡ (leb 1 a && (ltb a b && (leb b n && leb 1 w)))
+unfolding linkOk every
+two-bytes n a b w h = rw (le-leb w 65535 (omega arith), and-true (leb 1 w))
+
+-- a record for the link chain, by its tests
+pub fits-test : (n c d a b w z : ℕ) {x₁ x₂ x₃ y₁ y₂ t : Bool} → w < 65536 → x₁ ≡ (leb b n && leb 1 w) → x₂ ≡ (ltb a b && x₁) → x₃ ≡ (leb 1 a && x₂) → y₁ ≡ before c d a b → y₂ ≡ (eqb z 0 && y₁) → t ≡ (x₃ && y₂)
+    → t ≡ (linkOk n (record { u = a; v = b; weight = w }) && (eqb z 0 && before c d a b))
+fits-test n c d a b w z h e f g j k l = l ∙ rw (two-bytes n a b w h, g, f, e, k, j)
+
+-- the same of the record that was read
+pub link-test : (s : List ℕ) (n c d k a b w x z : ℕ) → {t v : Bool} → Fields s k a b w x z → t ≡ (linkOk n (record { u = a; v = b; weight = w }) && (eqb z 0 && before c d a b)) → t ≡ v → linkFits s n c d k ≡ v
+unfolding linkFits linkAt padZero
+link-test s n c d k a b w x z f e g = rw (← f .0, ← f .1, ← f .2, ← f .4) (sym e ∙ g)
+
+-- a free record, by the tests of the record that was read
+pub free-test : (s : List ℕ) (k a b w x z : ℕ) → {t v : Bool} → Fields s k a b w x z → t ≡ (eqb a 0 && (eqb b 0 && (eqb w 0 && eqb z 0))) → t ≡ v → freeOk s k ≡ v
+unfolding freeOk every padZero
+free-test s k a b w x z f e g = rw (← f .0, ← f .1, ← f .2, ← f .4, and-true (eqb z 0)) (sym e ∙ g)
+
+-- the whole image, by its walks
+pub image-test : (s : List ℕ) (n m : ℕ) {x y t : Bool} → length s ≡ SIZE → headOk s ≡ true → m ≡ word s countAt → m ≤ RECORDS → n ≡ byte s metersAt → x ≡ walkLinks s n m (first s) 0 0 → y ≡ walkFree s (RECORDS - m) (firstFree s) → t ≡ (x && y) → t ≡ valid s
+unfolding count meters
+image-test s n m l h e k f g j q = q ∙ rw (g, j, e, f) (sym (checks-walks s l h (omega (arith, e, k))) ∙ valid-checks s)
+
+-- ---- src/edits.rt
+
+-- a number stored behind the first i makes one more
+pub store-next : (A d : List ℕ) (i x : ℕ) → length A ≡ i → i < length d → set (A ++ drop i d) i x ≡ (A ++ (x ∷ [])) ++ drop (i + 1) d
+store-next A d i x e h = rw (add-one i, drop-cons d i 0 h, set-at A (getD d i 0) (drop (suc i) d) x i e, append-assoc A (x ∷ []) (drop (suc i) d))
+
+-- the loop that fills with zeros: before it
+pub zeros-start : (s : List ℕ) → s ≡ zeros 0 ++ drop 0 s
+unfolding zeros
+zeros-start s = refl
+
+zeros-more : (i : ℕ) → zeros i ++ (0 ∷ []) ≡ zeros (suc i)
+unfolding zeros
+zeros-more zero = refl
+zeros-more (suc i) = ap (λ (t : List ℕ). 0 ∷ t) (zeros-more i)
+
+length-zeros : (i : ℕ) → length (zeros i) ≡ i
+unfolding zeros
+length-zeros i = length-replicate i 0
+
+-- a turn
+pub zeros-turn : (i : ℕ) (d : List ℕ) → i < length d → set (zeros i ++ drop i d) i 0 ≡ zeros (i + 1) ++ drop (i + 1) d
+zeros-turn i d h = store-next (zeros i) d i 0 (length-zeros i) h ∙ rw (zeros-more i, add-one i)
+
+-- after it
+pub zeros-end : (i : ℕ) (d : List ℕ) → i ≤ length d → length d ≤ i → zeros i ++ drop i d ≡ zeros (length d)
+zeros-end i d a b =
+    let e : i ≡ length d = omega arith in
+    rw (drop-of-length-le d {i = i} (omega arith), append-nil, e)
+
+-- the next record's number, stored by way of its slot
+pub chained-turn : (s t : List ℕ) (k i : ℕ) → i ≡ slot (k + 1) → t ≡ setWord (chained k s) i (k + 1 + 1) → t ≡ chained (k + 1) s
+unfolding chained slot
+chained-turn s t k i e f = f ∙ rw (e, add-one k, ne-eqb (suc k) 0 (λ z. omega arith))
+
+-- whether the search goes on, by the record that was read
+pub goes-test : (s : List ℕ) (c d k a b : ℕ) {t : Bool} → named k ≡ true → a ≡ endU s k → b ≡ endV s k → t ≡ before a b c d → t ≡ goesOn s c d k
+unfolding goesOn
+goes-test s c d k a b n e f g = rw (n, ← e, ← f) g
+
+-- it goes on at records
+pub goes-within : (s : List ℕ) (a b q : ℕ) → goesOn s a b q ≡ true → q ≤ RECORDS
+unfolding goesOn
+goes-within s a b q e = named-high q (and-left (named q) _ e)
+
+-- whether a link is there, by the record that was read
+pub holds-test : (s : List ℕ) (c d k a b : ℕ) {t : Bool} → named k ≡ true → a ≡ endU s k → b ≡ endV s k → t ≡ (eqb a c && eqb b d) → t ≡ isLink s c d k
+unfolding isLink hasEnds linkAt
+holds-test s c d k a b n e f g = rw (n, ← e, ← f) g
+
+or-five : (a b c d e : Bool) → ((a || b) || ((c || d) || e)) ≡ (a || (b || (c || (d || (e || false)))))
+or-five true b c d e = refl
+or-five false true c d e = refl
+or-five false false true d e = refl
+or-five false false false true e = refl
+or-five false false false false true = refl
+or-five false false false false false = refl
+
+-- the bad ends, by their tests
+pub ends-test : (n a b : ℕ) {x y z t : Bool} → x ≡ (eqb a 0 || ltb n a) → y ≡ (eqb b 0 || ltb n b) → z ≡ (y || eqb a b) → t ≡ (x || z) → t ≡ badEnds n a b
+unfolding badEnds some
+ends-test n a b e f g h = h ∙ rw (g, f, e) (or-five (eqb a 0) (ltb n a) (eqb b 0) (ltb n b) (eqb a b))
+
+-- the record at the place, read by way of its slot
+pub at-found : (s : List ℕ) (u v p i q : ℕ) → p ≡ place s u v → i ≡ slot p → q ≡ word s i → q ≡ after s (place s u v)
+unfolding after
+at-found s u v p i q a b c = c ∙ rw (b, a)
+
+-- the stores of add, one after the other
+pub add-steps : (s s₁ s₂ s₃ s₄ : List ℕ) (u v w r n p i q x : ℕ) → r ≡ word s freeAt → n ≡ word s countAt → p ≡ place s u v → i ≡ slot p → q ≡ word s i → x ≡ next s r
+    → s₁ ≡ setWord s freeAt x → s₂ ≡ setWord s₁ countAt (n + 1) → s₃ ≡ setRecord s₂ r u v w q → s₄ ≡ setWord s₃ i r → s₄ ≡ addBytes s u v w
+unfolding addBytes firstFree count after
+add-steps s s₁ s₂ s₃ s₄ u v w r n p i q x a b c d e f g h k l = l ∙ rw (k, h, g, f, e, d, c, b, a)
+
+-- those of remove
+pub remove-steps : (s s₁ s₂ s₃ s₄ : List ℕ) (u v r n p i q x : ℕ) → r ≡ word s freeAt → n ≡ word s countAt → p ≡ place s u v → i ≡ slot p → q ≡ word s i → x ≡ next s q
+    → s₁ ≡ setWord s freeAt q → s₂ ≡ setWord s₁ countAt (n - 1) → s₃ ≡ setRecord s₂ q 0 0 0 r → s₄ ≡ setWord s₃ i x → s₄ ≡ removeBytes s u v
+unfolding removeBytes firstFree count after
+remove-steps s s₁ s₂ s₃ s₄ u v r n p i q x a b c d e f g h k l = l ∙ rw (k, h, g, f, e, d, c, b, a)

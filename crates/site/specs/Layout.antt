@@ -1,0 +1,91 @@
+-- The site image, field by field: document 01's "2,064 bytes; two-byte fields are little-endian". No other file says where a field stands.
+-- Assumes nothing.
+use Prim.Native.Nat.{ℕ, _+_, _*_, _/_, _%_}
+use mathlib.Core.List.{List}
+use lib.ListN.{getD, set}
+
+-- ---- sizes
+
+-- "2,064 bytes"
+abbrev pub SIZE : ℕ
+SIZE = 2064
+
+-- "records 1 to 256"
+abbrev pub RECORDS : ℕ
+RECORDS = 256
+
+-- "N is 1 to 48"
+abbrev pub METERS : ℕ
+METERS = 48
+
+-- ---- fields of one or two bytes
+
+unfoldable pub byte : List ℕ → ℕ → ℕ
+byte s i = getD s i 0
+
+-- "two-byte fields are little-endian"
+unfoldable pub word : List ℕ → ℕ → ℕ
+word s i = byte s i + 256 * byte s (i + 1)
+
+-- the two-byte field at byte i set to x
+unfoldable pub setWord : List ℕ → ℕ → ℕ → List ℕ
+setWord s i x = set (set s i (x % 256)) (i + 1) (x / 256)
+
+-- ---- the header: "byte 0 is N, the number of meters; byte 1 is zero; bytes 2-3 the first link; 4-5 the first free record; 6-7 the link count; 8-15 zero"
+
+abbrev pub metersAt : ℕ
+metersAt = 0
+
+abbrev pub firstAt : ℕ
+firstAt = 2
+
+abbrev pub freeAt : ℕ
+freeAt = 4
+
+abbrev pub countAt : ℕ
+countAt = 6
+
+unfoldable pub meters : List ℕ → ℕ
+meters s = byte s metersAt
+
+unfoldable pub first : List ℕ → ℕ
+first s = word s firstAt
+
+unfoldable pub firstFree : List ℕ → ℕ
+firstFree s = word s freeAt
+
+unfoldable pub count : List ℕ → ℕ
+count s = word s countAt
+
+-- ---- record k: "records 1 to 256, eight bytes each: end u, end v, weight (2 bytes), next (2 bytes), two zero bytes"
+
+abbrev pub recordAt : ℕ → ℕ
+recordAt k = 8 * k + 8
+
+abbrev pub weightAt : ℕ → ℕ
+weightAt k = recordAt k + 2
+
+abbrev pub nextAt : ℕ → ℕ
+nextAt k = recordAt k + 4
+
+abbrev pub padAt : ℕ → ℕ
+padAt k = recordAt k + 6
+
+unfoldable pub endU : List ℕ → ℕ → ℕ
+endU s k = byte s (recordAt k)
+
+unfoldable pub endV : List ℕ → ℕ → ℕ
+endV s k = byte s (recordAt k + 1)
+
+unfoldable pub weight : List ℕ → ℕ → ℕ
+weight s k = word s (weightAt k)
+
+unfoldable pub next : List ℕ → ℕ → ℕ
+next s k = word s (nextAt k)
+
+unfoldable pub pad : List ℕ → ℕ → ℕ
+pad s k = word s (padAt k)
+
+-- record k set to the ends a and b, the weight w and the next record x, its two zero bytes as they are
+unfoldable pub setRecord : List ℕ → ℕ → ℕ → ℕ → ℕ → ℕ → List ℕ
+setRecord s k a b w x = setWord (setWord (set (set s (recordAt k) a) (recordAt k + 1) b) (weightAt k) w) (nextAt k) x

@@ -1,0 +1,182 @@
+// The parts of begin, add and remove: finding a link's place, and the stores that put it in or take it out.
+ghost use mathlib.Core.Path.{_≡_};
+ghost use Prim.Native.Nat.{_+_, _-_, _<_, _≤_};
+ghost use lib.ListN.{length};
+ghost use Rattle.links.specs.Links.{badEnds, low, high, present};
+ghost use Rattle.site.specs.Layout.{SIZE, RECORDS, firstFree, count};
+ghost use Rattle.site.specs.Image.{links};
+ghost use Rattle.site.specs.Edits.{zeros, chained, after, goesOn, place, addBytes, removeBytes};
+ghost use Rattle.site.specs.Walks.{isLink, findRefusal};
+use crate::fields;
+use crate::rules;
+
+// ---- begin
+
+// All bytes zero: what a lent buffer held before begin does not matter.
+pub fn fill_zero(s: &mut [u8])
+    ensures { λ _. ⌜ now (s .exit) ≡ zeros (length (now (s .entry))) ⌝ }
+{
+    let mut i = 0;
+    while i < s.len() {
+        s[i] = 0;
+        i += 1;
+    }
+}
+
+// Makes every record but the last name the one after it.
+pub fn chain_records(s: &mut [u8])
+    requires { ⌜ length (now s) ≡ SIZE ⌝ }
+    ensures { λ _. ⌜ now (s .exit) ≡ chained (RECORDS - 1) (now (s .entry)) ⌝ }
+{
+    let mut k = 0;
+    while k + 1 < fields::RECORDS {
+        k += 1;
+        fields::put_word(s, fields::slot_of(k), k + 1);
+    }
+}
+
+// ---- the place of a link
+
+// Whether q names a record, whose link stands before the ends (a, b).
+fn goes_on(s: &[u8], a: usize, b: usize, q: usize) -> bool
+    requires { ⌜ length (now s) ≡ SIZE ⌝ }
+    ensures { λ r. ⌜ r ≡ goesOn (now (s .entry)) a b q ⌝ }
+{
+    if !rules::names_record(q) {
+        return false;
+    }
+    let r = fields::read_record(s, q);
+    rules::is_before(r.u, r.v, a, b)
+}
+
+// The record after which the link with ends a and b stands, or is to stand; 0 for the front of the chain.
+fn find_place(s: &[u8], a: usize, b: usize) -> usize
+    requires { ⌜ length (now s) ≡ SIZE ⌝ }
+    ensures { λ r. ⌜ (r ≡ place (now (s .entry)) a b) × (r ≤ RECORDS) ⌝ }
+{
+    let mut p = 0;
+    let mut left = fields::RECORDS;
+    while 0 < left {
+        let q = fields::read_word(s, fields::slot_of(p));
+        if !goes_on(s, a, b, q) {
+            return p;
+        }
+        p = q;
+        left -= 1;
+    }
+    p
+}
+
+// Whether q names a record that holds the link with ends a and b.
+fn holds_link(s: &[u8], a: usize, b: usize, q: usize) -> bool
+    requires { ⌜ length (now s) ≡ SIZE ⌝ }
+    ensures { λ r. ⌜ r ≡ isLink (now (s .entry)) a b q ⌝ }
+{
+    if !rules::names_record(q) {
+        return false;
+    }
+    let r = fields::read_record(s, q);
+    rules::both(r.u == a, r.v == b)
+}
+
+// ---- what add and remove look up
+
+// Whether an end is 0 or above n, or both are equal.
+fn bad_ends(n: u64, a: u64, b: u64) -> bool
+    ensures { λ r. ⌜ r ≡ badEnds n a b ⌝ }
+{
+    let one = rules::either(a == 0, n < a);
+    let other = rules::either(b == 0, n < b);
+    rules::either(one, rules::either(other, a == b))
+}
+
+fn low_of(a: u64, b: u64) -> u64
+    ensures { λ r. ⌜ r ≡ low a b ⌝ }
+{
+    if a < b { a } else { b }
+}
+
+fn high_of(a: u64, b: u64) -> u64
+    ensures { λ r. ⌜ r ≡ high a b ⌝ }
+{
+    if a < b { b } else { a }
+}
+
+// Where a link stands or is to stand. Where refusal is not 0, the rest says nothing.
+pub struct Found {
+    pub refusal: u64,
+    pub u: usize,
+    pub v: usize,
+    pub place: usize,
+    pub present: bool,
+}
+
+fn refused(refusal: u64) -> Found
+    ensures { λ r. ⌜ r .refusal ≡ refusal ⌝ }
+{
+    Found {
+        refusal: refusal,
+        u: 0,
+        v: 0,
+        place: 0,
+        present: false,
+    }
+}
+
+// What add and remove share: the refusals 1 and 2, the ends in order, the link's place and whether it is there.
+pub fn find(image: &[u8], u: u64, v: u64) -> Found
+    ensures { λ r. ⌜ r .refusal ≡ findRefusal (now (image .entry)) u v ⌝ }
+    ensures { λ r. ⌜ ((r .refusal ≡ 0) → (r .u ≡ low u v) × (r .v ≡ high u v) × (r .place ≡ place (now (image .entry)) (low u v) (high u v)) × (r .present ≡ present (low u v) (high u v) (links (now (image .entry))))) ⌝ }
+{
+    if !rules::is_image(image) {
+        return refused(1);
+    }
+    if bad_ends(fields::wide(image[fields::METERS_AT]) as u64, u, v) {
+        return refused(2);
+    }
+    let a = low_of(u, v) as usize;
+    let b = high_of(u, v) as usize;
+    let p = find_place(image, a, b);
+    let q = fields::read_word(image, fields::slot_of(p));
+    Found {
+        refusal: 0,
+        u: a,
+        v: b,
+        place: p,
+        present: holds_link(image, a, b, q),
+    }
+}
+
+// ---- stores
+
+// Takes the first free record for the link (u, v), and puts it after record p, its place.
+pub fn insert(s: &mut [u8], p: usize, u: usize, v: usize, weight: usize)
+    requires { ⌜ (length (now s) ≡ SIZE) × (p ≡ place (now s) u v) × (p ≤ RECORDS) × (firstFree (now s) ≤ RECORDS) × (count (now s) ≤ RECORDS) × (u < 256) × (v < 256) × (weight < 65536) ⌝ }
+    ensures { λ _. ⌜ now (s .exit) ≡ addBytes (now (s .entry)) u v weight ⌝ }
+{
+    let record = fields::read_word(s, fields::FREE_AT);
+    let count = fields::read_word(s, fields::COUNT_AT);
+    let slot = fields::slot_of(p);
+    let next = fields::read_word(s, slot);
+    let free = fields::read_record(s, record).next;
+    fields::put_word(s, fields::FREE_AT, free);
+    fields::put_word(s, fields::COUNT_AT, count + 1);
+    fields::put_record(s, record, u, v, weight, next);
+    fields::put_word(s, slot, record);
+}
+
+// Takes the record after record p out of the link chain, clears it, and makes it the first free one.
+pub fn delete(s: &mut [u8], p: usize, u: usize, v: usize)
+    requires { ⌜ (length (now s) ≡ SIZE) × (p ≡ place (now s) u v) × (p ≤ RECORDS) × (after (now s) (place (now s) u v) ≤ RECORDS) × (1 ≤ count (now s)) ⌝ }
+    ensures { λ _. ⌜ now (s .exit) ≡ removeBytes (now (s .entry)) u v ⌝ }
+{
+    let free = fields::read_word(s, fields::FREE_AT);
+    let count = fields::read_word(s, fields::COUNT_AT);
+    let slot = fields::slot_of(p);
+    let record = fields::read_word(s, slot);
+    let next = fields::read_record(s, record).next;
+    fields::put_word(s, fields::FREE_AT, record);
+    fields::put_word(s, fields::COUNT_AT, count - 1);
+    fields::put_record(s, record, 0, 0, 0, free);
+    fields::put_word(s, slot, next);
+}

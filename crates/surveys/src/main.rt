@@ -1,0 +1,20 @@
+// Makes the calls of `site` that the papers work through and many others, and prints the numbers that they return, so that the compiled library is compared with a stored file. The file was not copied
+// from a run: its lines were worked out from the papers, and the counts of the random edits by a separate model of the papers.
+mod broken;
+mod calls;
+mod copies;
+mod edits;
+mod filling;
+mod lines;
+mod matrix;
+mod random;
+mod readings;
+mod trials;
+
+// Each part makes its own images, and they can be read in any order.
+fn main() {
+    edits::show();
+    filling::show();
+    broken::show();
+    trials::show();
+}
