@@ -10,10 +10,10 @@ use native.Mathlib.Omega.{arith}
 use native.Mathlib.Nat.{suc-ne-zero}
 use Rattle.links.specs.Links.{badEnds, low, high, present}
 use Rattle.links.proofs.Tests.{or-right}
-use Rattle.site.specs.Layout.{SIZE, RECORDS, METERS, count, metersAt, freeAt, word, meters, firstFree, setWord}
+use Rattle.site.specs.Layout.{SIZE, RECORDS, METERS, count, metersAt, freeAt, meters, firstFree, setWord}
 use Rattle.site.specs.Image.{links, valid}
 use Rattle.site.specs.Refusal.{refusal}
-use Rattle.site.specs.Edits.{checkRefusal, zeros, chained, slot, place, after, beginBytes, beginRefusal, beginImage, addBytes, addRefusal, addImage, removeBytes, removeRefusal, removeImage}
+use Rattle.site.specs.Edits.{checkRefusal, zeros, chained, place, after, beginBytes, beginRefusal, beginImage, addBytes, addRefusal, addImage, removeBytes, removeRefusal, removeImage}
 use Rattle.site.specs.Reading.{readMeters, readLinks, storeFrom, over}
 use Rattle.site.specs.Walks.{findRefusal, isLink, atPlace}
 use Rattle.site.proofs.Placed.{at-place}
@@ -64,10 +64,10 @@ module _ (s : List ℕ) (a b : ℕ) where
   find-long e = valid-long s (not-false (valid s) (refusal-none 0 _ _ e .0))
 
   -- what find tells of a link
-  pub found : (u v p i q : ℕ) {t : Bool} → valid s ≡ true → u ≡ low a b → v ≡ high a b → p ≡ place s u v → i ≡ slot p → q ≡ word s i → t ≡ isLink s u v q
+  pub found : (u v p q : ℕ) {t : Bool} → valid s ≡ true → u ≡ low a b → v ≡ high a b → p ≡ place s u v → q ≡ after s p → t ≡ isLink s u v q
       → (u ≡ low a b) × (v ≡ high a b) × (p ≡ place s (low a b) (high a b)) × (t ≡ present (low a b) (high a b) (links s))
-  unfolding atPlace after
-  found u v p i q e f g h j k l = (f, g, h ∙ rw (f, g), l ∙ rw (k, j, h, f, g) (at-place s (low a b) (high a b) e))
+  unfolding atPlace
+  found u v p q e f g h j l = (f, g, h ∙ rw (f, g), l ∙ rw (j, h, f, g) (at-place s (low a b) (high a b) e))
 
 -- ---- add
 module _ (s : List ℕ) (a b w : ℕ) where

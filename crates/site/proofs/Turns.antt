@@ -157,19 +157,23 @@ pub ends-test : (n a b : ℕ) {x y z t : Bool} → x ≡ (eqb a 0 || ltb n a) �
 unfolding badEnds some
 ends-test n a b e f g h = h ∙ rw (g, f, e) (or-five (eqb a 0) (ltb n a) (eqb b 0) (ltb n b) (eqb a b))
 
--- the record at the place, read by way of its slot
-pub at-found : (s : List ℕ) (u v p i q : ℕ) → p ≡ place s u v → i ≡ slot p → q ≡ word s i → q ≡ after s (place s u v)
-unfolding after
-at-found s u v p i q a b c = c ∙ rw (b, a)
+-- the record at the place
+pub at-found : (s : List ℕ) (u v p k : ℕ) → p ≡ place s u v → k ≡ after s p → k ≡ after s (place s u v)
+at-found s u v p k a b = b ∙ rw a
 
--- the stores of add, one after the other
-pub add-steps : (s s₁ s₂ s₃ s₄ : List ℕ) (u v w r n p i q x : ℕ) → r ≡ word s freeAt → n ≡ word s countAt → p ≡ place s u v → i ≡ slot p → q ≡ word s i → x ≡ next s r
-    → s₁ ≡ setWord s freeAt x → s₂ ≡ setWord s₁ countAt (n + 1) → s₃ ≡ setRecord s₂ r u v w q → s₄ ≡ setWord s₃ i r → s₄ ≡ addBytes s u v w
-unfolding addBytes firstFree count after
-add-steps s s₁ s₂ s₃ s₄ u v w r n p i q x a b c d e f g h k l = l ∙ rw (k, h, g, f, e, d, c, b, a)
+-- the stores of add and remove, one after the other
+pub relink-steps : (s s₁ s₂ s₃ s₄ : List ℕ) (f c k a b w x p i y : ℕ) → s₁ ≡ setWord s freeAt f → s₂ ≡ setWord s₁ countAt c → s₃ ≡ setRecord s₂ k a b w x → i ≡ slot p → s₄ ≡ setWord s₃ i y
+    → s₄ ≡ setWord (setRecord (setWord (setWord s freeAt f) countAt c) k a b w x) (slot p) y
+relink-steps s s₁ s₂ s₃ s₄ f c k a b w x p i y d e g h j = j ∙ rw (g, e, d, h)
 
--- those of remove
-pub remove-steps : (s s₁ s₂ s₃ s₄ : List ℕ) (u v r n p i q x : ℕ) → r ≡ word s freeAt → n ≡ word s countAt → p ≡ place s u v → i ≡ slot p → q ≡ word s i → x ≡ next s q
-    → s₁ ≡ setWord s freeAt q → s₂ ≡ setWord s₁ countAt (n - 1) → s₃ ≡ setRecord s₂ q 0 0 0 r → s₄ ≡ setWord s₃ i x → s₄ ≡ removeBytes s u v
-unfolding removeBytes firstFree count after
-remove-steps s s₁ s₂ s₃ s₄ u v r n p i q x a b c d e f g h k l = l ∙ rw (k, h, g, f, e, d, c, b, a)
+-- with what add read before
+pub add-steps : (s t : List ℕ) (u v w k n p x q : ℕ) → k ≡ word s freeAt → n ≡ word s countAt → p ≡ place s u v → x ≡ next s k → q ≡ after s p
+    → t ≡ setWord (setRecord (setWord (setWord s freeAt x) countAt (n + 1)) k u v w q) (slot p) k → t ≡ addBytes s u v w
+unfolding addBytes firstFree count
+add-steps s t u v w k n p x q a b c d e f = f ∙ rw (d, e, c, b, a)
+
+-- with what remove read before
+pub remove-steps : (s t : List ℕ) (u v k n p x f : ℕ) → f ≡ word s freeAt → n ≡ word s countAt → p ≡ place s u v → k ≡ after s p → x ≡ next s k
+    → t ≡ setWord (setRecord (setWord (setWord s freeAt k) countAt (n - 1)) k 0 0 0 f) (slot p) x → t ≡ removeBytes s u v
+unfolding removeBytes firstFree count
+remove-steps s t u v k n p x f a b c d e g = g ∙ rw (e, d, c, b, a)

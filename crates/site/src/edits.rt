@@ -3,11 +3,12 @@ ghost use mathlib.Core.Path.{_≡_};
 ghost use Prim.Native.Nat.{_+_, _-_, _<_, _≤_};
 ghost use lib.ListN.{length};
 ghost use Rattle.links.specs.Links.{badEnds, low, high, present};
-ghost use Rattle.site.specs.Layout.{SIZE, RECORDS, firstFree, count};
+ghost use Rattle.site.specs.Layout.{SIZE, RECORDS, freeAt, countAt, firstFree, count, setWord, setRecord};
 ghost use Rattle.site.specs.Image.{links};
-ghost use Rattle.site.specs.Edits.{zeros, chained, after, goesOn, place, addBytes, removeBytes};
+ghost use Rattle.site.specs.Edits.{zeros, chained, slot, after, goesOn, place, addBytes, removeBytes};
 ghost use Rattle.site.specs.Walks.{isLink, findRefusal};
 use crate::fields;
+use crate::fields::Record;
 use crate::rules;
 
 // ---- begin
@@ -57,7 +58,7 @@ fn find_place(s: &[u8], a: usize, b: usize) -> usize
     let mut p = 0;
     let mut left = fields::RECORDS;
     while 0 < left {
-        let q = fields::read_word(s, fields::slot_of(p));
+        let q = fields::follower(s, p);
         if !goes_on(s, a, b, q) {
             return p;
         }
@@ -137,7 +138,7 @@ pub fn find(image: &[u8], u: u64, v: u64) -> Found
     let a = low_of(u, v) as usize;
     let b = high_of(u, v) as usize;
     let p = find_place(image, a, b);
-    let q = fields::read_word(image, fields::slot_of(p));
+    let q = fields::follower(image, p);
     Found {
         refusal: 0,
         u: a,
@@ -149,20 +150,33 @@ pub fn find(image: &[u8], u: u64, v: u64) -> Found
 
 // ---- stores
 
+// The stores that add and remove share: the first free record, the count, record k, and the record that follows record p.
+fn relink(s: &mut [u8], free: usize, count: usize, k: usize, r: Record, p: usize, following: usize)
+    requires { ⌜ (length (now s) ≡ SIZE) × (free < 65536) × (count < 65536) × (k ≤ RECORDS) × (r .u < 256) × (r .v < 256) × (r .weight < 65536) × (r .next < 65536) × (p ≤ RECORDS) × (following < 65536) ⌝ }
+    ensures { λ _. ⌜ now (s .exit) ≡ setWord (setRecord (setWord (setWord (now (s .entry)) freeAt free) countAt count) k (r .u) (r .v) (r .weight) (r .next)) (slot p) following ⌝ }
+{
+    fields::put_word(s, fields::FREE_AT, free);
+    fields::put_word(s, fields::COUNT_AT, count);
+    fields::put_record(s, k, r);
+    fields::put_word(s, fields::slot_of(p), following);
+}
+
 // Takes the first free record for the link (u, v), and puts it after record p, its place.
 pub fn insert(s: &mut [u8], p: usize, u: usize, v: usize, weight: usize)
     requires { ⌜ (length (now s) ≡ SIZE) × (p ≡ place (now s) u v) × (p ≤ RECORDS) × (firstFree (now s) ≤ RECORDS) × (count (now s) ≤ RECORDS) × (u < 256) × (v < 256) × (weight < 65536) ⌝ }
     ensures { λ _. ⌜ now (s .exit) ≡ addBytes (now (s .entry)) u v weight ⌝ }
 {
-    let record = fields::read_word(s, fields::FREE_AT);
+    let k = fields::read_word(s, fields::FREE_AT);
     let count = fields::read_word(s, fields::COUNT_AT);
-    let slot = fields::slot_of(p);
-    let next = fields::read_word(s, slot);
-    let free = fields::read_record(s, record).next;
-    fields::put_word(s, fields::FREE_AT, free);
-    fields::put_word(s, fields::COUNT_AT, count + 1);
-    fields::put_record(s, record, u, v, weight, next);
-    fields::put_word(s, slot, record);
+    let free = fields::read_record(s, k).next;
+    let r = Record {
+        u: u,
+        v: v,
+        weight: weight,
+        next: fields::follower(s, p),
+        pad: 0,
+    };
+    relink(s, free, count + 1, k, r, p, k);
 }
 
 // Takes the record after record p out of the link chain, clears it, and makes it the first free one.
@@ -170,13 +184,15 @@ pub fn delete(s: &mut [u8], p: usize, u: usize, v: usize)
     requires { ⌜ (length (now s) ≡ SIZE) × (p ≡ place (now s) u v) × (p ≤ RECORDS) × (after (now s) (place (now s) u v) ≤ RECORDS) × (1 ≤ count (now s)) ⌝ }
     ensures { λ _. ⌜ now (s .exit) ≡ removeBytes (now (s .entry)) u v ⌝ }
 {
-    let free = fields::read_word(s, fields::FREE_AT);
+    let k = fields::follower(s, p);
     let count = fields::read_word(s, fields::COUNT_AT);
-    let slot = fields::slot_of(p);
-    let record = fields::read_word(s, slot);
-    let next = fields::read_record(s, record).next;
-    fields::put_word(s, fields::FREE_AT, record);
-    fields::put_word(s, fields::COUNT_AT, count - 1);
-    fields::put_record(s, record, 0, 0, 0, free);
-    fields::put_word(s, slot, next);
+    let next = fields::read_record(s, k).next;
+    let r = Record {
+        u: 0,
+        v: 0,
+        weight: 0,
+        next: fields::read_word(s, fields::FREE_AT),
+        pad: 0,
+    };
+    relink(s, k, count - 1, k, r, p, next);
 }

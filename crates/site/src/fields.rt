@@ -3,7 +3,7 @@ ghost use mathlib.Core.Path.{_≡_};
 ghost use Prim.Native.Nat.{_+_, _<_, _≤_};
 ghost use lib.ListN.{length};
 ghost use Rattle.site.specs.Layout.{SIZE, RECORDS, recordAt, word, endU, endV, weight, next, pad, setWord, setRecord};
-ghost use Rattle.site.specs.Edits.{slot};
+ghost use Rattle.site.specs.Edits.{slot, after};
 
 pub const IMAGE_LEN: usize = 2064;
 
@@ -75,6 +75,14 @@ pub fn slot_of(p: usize) -> usize
     if p == 0 { FIRST_AT } else { record_at(p) + 4 }
 }
 
+// The record that follows record p in the link chain, 0 for none.
+pub fn follower(s: &[u8], p: usize) -> usize
+    requires { ⌜ (length (now s) ≡ SIZE) × (p ≤ RECORDS) ⌝ }
+    ensures { λ r. ⌜ (r ≡ after (now (s .entry)) p) × (r < 65536) ⌝ }
+{
+    read_word(s, slot_of(p))
+}
+
 // Stores the two-byte field at byte i.
 pub fn put_word(s: &mut [u8], i: usize, x: usize)
     requires { ⌜ (i + 1 < length (now s)) × (x < 65536) ⌝ }
@@ -84,14 +92,14 @@ pub fn put_word(s: &mut [u8], i: usize, x: usize)
     s[i + 1] = (x / 256) as u8;
 }
 
-// Record k, but for its two zero bytes.
-pub fn put_record(s: &mut [u8], k: usize, u: usize, v: usize, weight: usize, next: usize)
-    requires { ⌜ (length (now s) ≡ SIZE) × (k ≤ RECORDS) × (u < 256) × (v < 256) × (weight < 65536) × (next < 65536) ⌝ }
-    ensures { λ _. ⌜ now (s .exit) ≡ setRecord (now (s .entry)) k u v weight next ⌝ }
+// Record k, but for its two zero bytes, which stay as they are.
+pub fn put_record(s: &mut [u8], k: usize, r: Record)
+    requires { ⌜ (length (now s) ≡ SIZE) × (k ≤ RECORDS) × (r .u < 256) × (r .v < 256) × (r .weight < 65536) × (r .next < 65536) ⌝ }
+    ensures { λ _. ⌜ now (s .exit) ≡ setRecord (now (s .entry)) k (r .u) (r .v) (r .weight) (r .next) ⌝ }
 {
     let at = record_at(k);
-    s[at] = u as u8;
-    s[at + 1] = v as u8;
-    put_word(s, at + 2, weight);
-    put_word(s, at + 4, next);
+    s[at] = r.u as u8;
+    s[at + 1] = r.v as u8;
+    put_word(s, at + 2, r.weight);
+    put_word(s, at + 4, r.next);
 }

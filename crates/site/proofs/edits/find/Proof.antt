@@ -1,10 +1,10 @@
-use native.Mathlib.Nat.{suc-ne-zero}
-use Rattle.site.proofs.Calls.{find-image, find-ends, find-none, found}
 use mathlib.Core.Path.{sym, _∙_}
 use native.Mathlib.Omega.{arith}
+use native.Mathlib.Nat.{suc-ne-zero}
 use borrow.Author.Tests.{not-true, not-false}
 use Rattle.site.specs.Layout.{meters, byte}
 use Rattle.site.proofs.Valid.{valid-long}
+use Rattle.site.proofs.Calls.{find-image, find-ends, find-none, found}
 use borrow.Author.Needs.{needs}
 use Rattle.site.proofs.edits.find.Statement.{statement}
 use Rattle.site.proofs.edits.find.Tie as tie
@@ -16,8 +16,7 @@ use Rattle.site.proofs.edits.high_of.Reads as high-of-reads
 use Rattle.site.proofs.edits.holds_link.Reads as holds-link-reads
 use Rattle.site.proofs.edits.low_of.Reads as low-of-reads
 use Rattle.site.proofs.edits.refused.Reads as refused-reads
-use Rattle.site.proofs.fields.read_word.Reads as read-word-reads
-use Rattle.site.proofs.fields.slot_of.Reads as slot-of-reads
+use Rattle.site.proofs.fields.follower.Reads as follower-reads
 use Rattle.site.proofs.fields.wide.Reads as wide-reads
 use Rattle.site.proofs.rules.is_image.Reads as is-image-reads
 
@@ -55,19 +54,16 @@ high-of-requires c κs = search needs
 find-place-requires : tie.Need-find-place-requires
 find-place-requires c κs = valid-long _ (sym (c .before .before .before .before .before .before .before .is-image .ensures) ∙ not-false _ (c .before .before .before .before .before .before .if1 .left))
 
-slot-of-requires : tie.Need-slot-of-requires
-slot-of-requires c κs = search needs
-
-read-word-requires : tie.Need-read-word-requires
-read-word-requires c κs = omega (arith, valid-long _ (sym (c .before .before .before .before .before .before .before .before .before .is-image .ensures) ∙ not-false _ (c .before .before .before .before .before .before .before .before .if1 .left)))
+follower-requires : tie.Need-follower-requires
+follower-requires c κs = (valid-long _ (sym (c .before .before .before .before .before .before .before .before .is-image .ensures) ∙ not-false _ (c .before .before .before .before .before .before .before .if1 .left)), c .find-place .ensures .1)
 
 holds-link-requires : tie.Need-holds-link-requires
-holds-link-requires c κs = valid-long _ (sym (c .before .before .before .before .before .before .before .before .before .before .is-image .ensures) ∙ not-false _ (c .before .before .before .before .before .before .before .before .before .if1 .left))
+holds-link-requires c κs = valid-long _ (sym (c .before .before .before .before .before .before .before .before .before .is-image .ensures) ∙ not-false _ (c .before .before .before .before .before .before .before .before .if1 .left))
 
 returns-3 : tie.Need-returns-3
 unfolding meters byte
-returns-3 c = let e = sym (c .before .before .before .before .before .before .before .before .before .before .before .is-image .ensures) ∙ not-false _ (c .before .before .before .before .before .before .before .before .before .before .if1 .left) in
-    (find-none _ _ _ e (rw (← c .before .before .before .before .before .before .before .before .wide .ensures .0) (sym (c .before .before .before .before .before .before .before .bad-ends .ensures) ∙ c .before .before .before .before .before .before .if2 .left)), λ z. found _ _ _ _ _ _ _ _ e (c .before .before .before .before .before .low-of .ensures) (c .before .before .before .before .high-of .ensures) (c .before .before .before .find-place .ensures .0) (c .before .before .slot-of .ensures .0) (c .before .read-word .ensures .0) (c .holds-link .ensures))
+returns-3 c = let e = sym (c .before .before .before .before .before .before .before .before .before .before .is-image .ensures) ∙ not-false _ (c .before .before .before .before .before .before .before .before .before .if1 .left) in
+    (find-none _ _ _ e (rw (← c .before .before .before .before .before .before .before .wide .ensures .0) (sym (c .before .before .before .before .before .before .bad-ends .ensures) ∙ c .before .before .before .before .before .if2 .left)), λ z. found _ _ _ _ _ _ _ e (c .before .before .before .before .low-of .ensures) (c .before .before .before .high-of .ensures) (c .before .before .find-place .ensures .0) (c .before .follower .ensures .0) (c .holds-link .ensures))
 
 pub find-spec : {M : Type 1} → statement M
 find-spec =
@@ -84,7 +80,6 @@ find-spec =
     low-of-requires
     high-of-requires
     find-place-requires
-    slot-of-requires
-    read-word-requires
+    follower-requires
     holds-link-requires
     returns-3)

@@ -6,11 +6,10 @@ use Rattle.site.proofs.edits.insert.Statement.{statement}
 use Rattle.site.proofs.edits.insert.Tie as tie
 use Rattle.site.proofs.edits.insert.Reads as reads
 use Rattle.site.proofs.edits.insert.Lts as lts
-use Rattle.site.proofs.fields.put_record.Reads as put-record-reads
-use Rattle.site.proofs.fields.put_word.Reads as put-word-reads
+use Rattle.site.proofs.edits.relink.Reads as relink-reads
+use Rattle.site.proofs.fields.follower.Reads as follower-reads
 use Rattle.site.proofs.fields.read_record.Reads as read-record-reads
 use Rattle.site.proofs.fields.read_word.Reads as read-word-reads
-use Rattle.site.proofs.fields.slot_of.Reads as slot-of-reads
 
 read-word-requires : tie.Need-read-word-requires
 read-word-requires c κs = search needs
@@ -18,38 +17,25 @@ read-word-requires c κs = search needs
 read-word-requires-2 : tie.Need-read-word-requires-2
 read-word-requires-2 c κs = search needs
 
-slot-of-requires : tie.Need-slot-of-requires
-slot-of-requires c κs = search needs
-
-read-word-requires-3 : tie.Need-read-word-requires-3
-read-word-requires-3 c κs = search needs
-
 read-record-requires : tie.Need-read-record-requires
 unfolding firstFree
-read-record-requires c κs = omega (arith, c .before .before .before .before .before .before .read-word .ensures .0, c .before .before .before .before .before .before .before .before .before .pre)
+read-record-requires c κs = omega (arith, c .before .before .before .read-word .ensures .0, c .before .before .before .before .before .before .pre)
 
-put-word-requires : tie.Need-put-word-requires
-put-word-requires c κs = omega arith
+follower-requires : tie.Need-follower-requires
+follower-requires c κs = search needs
 
-add-put-word : tie.Need-add-put-word
-add-put-word c = search needs
+add-relink : tie.Need-add-relink
+add-relink c = search needs
 
-put-word-requires-2 : tie.Need-put-word-requires-2
-unfolding count
-put-word-requires-2 c κs = omega (arith, c .before .before .before .put-word .kept .0, c .before .before .before .before .before .before .before .before .before .before .read-word2 .ensures .0, c .before .before .before .before .before .before .before .before .before .before .before .before .before .before .before .pre)
-
-put-record-requires : tie.Need-put-record-requires
-unfolding firstFree
-put-record-requires c κs = omega (arith, c .before .before .before .put-word2 .kept .0, c .before .before .before .before .before .before .before .put-word .kept .0, c .before .before .before .before .before .before .before .before .before .before .before .before .before .before .before .before .read-word .ensures .0, c .before .before .before .before .before .before .before .before .before .before .before .read-word3 .ensures .1, c .before .before .before .before .before .before .before .before .before .before .before .before .before .before .before .before .before .before .before .pre)
-
-put-word-requires-3 : tie.Need-put-word-requires-3
-put-word-requires-3 c κs = omega (arith, c .before .before .before .put-record .kept .0, c .before .before .before .before .before .before .before .put-word2 .kept .0, c .before .before .before .before .before .before .before .before .before .before .before .put-word .kept .0, c .before .before .before .before .before .before .before .before .before .before .before .before .before .before .before .before .before .before .before .before .read-word .ensures .1, c .before .before .before .before .before .before .before .before .before .before .before .before .before .before .before .before .before .slot-of .ensures .1, c .before .before .before .before .before .before .before .before .before .before .before .before .before .before .before .before .before .before .before .before .before .before .before .pre .0)
+relink-requires : tie.Need-relink-requires
+unfolding firstFree count
+relink-requires c κs = omega (arith, c .before .before .before .before .before .before .before .read-word .ensures .0, c .before .before .before .before .before .read-word2 .ensures .0, c .before .before .before .read-record .ensures .1, c .before .follower .ensures .1, c .before .before .before .before .before .before .before .before .before .before .pre)
 
 same-length : tie.Need-same-length
 same-length c = search needs
 
 returns : tie.Need-returns
-returns c = add-steps _ _ _ _ _ _ _ _ _ _ _ _ _ _ (c .before .before .before .before .before .before .before .before .before .before .before .before .before .before .before .before .before .before .before .before .before .before .before .read-word .ensures .0) (c .before .before .before .before .before .before .before .before .before .before .before .before .before .before .before .before .before .before .before .before .before .read-word2 .ensures .0) (c .before .before .before .before .before .before .before .before .before .before .before .before .before .before .before .before .before .before .before .before .before .before .before .before .before .before .pre .1) (c .before .before .before .before .before .before .before .before .before .before .before .before .before .before .before .before .before .before .before .before .slot-of .ensures .0) (c .before .before .before .before .before .before .before .before .before .before .before .before .before .before .before .before .before .before .read-word3 .ensures .0) (c .before .before .before .before .before .before .before .before .before .before .before .before .before .before .before .before .read-record .ensures .0 .3) (c .before .before .before .before .before .before .before .before .before .before .before .before .before .before .put-word .ensures) (c .before .before .before .before .before .before .before .before .before .before .put-word2 .ensures) (c .before .before .before .before .before .before .put-record .ensures) (c .before .before .put-word3 .ensures)
+returns c = add-steps _ _ _ _ _ _ _ _ _ _ (c .before .before .before .before .before .before .before .before .before .before .read-word .ensures .0) (c .before .before .before .before .before .before .before .before .read-word2 .ensures .0) (c .before .before .before .before .before .before .before .before .before .before .before .before .before .pre .1) (c .before .before .before .before .before .before .read-record .ensures .0 .3) (c .before .before .before .before .follower .ensures .0) (c .before .before .relink .ensures)
 
 pub insert-spec : {M : Type 1} → statement M
 insert-spec =
@@ -57,13 +43,9 @@ insert-spec =
     (tie.spec
     read-word-requires
     read-word-requires-2
-    slot-of-requires
-    read-word-requires-3
     read-record-requires
-    put-word-requires
-    add-put-word
-    put-word-requires-2
-    put-record-requires
-    put-word-requires-3
+    follower-requires
+    add-relink
+    relink-requires
     same-length
     returns)

@@ -1,7 +1,7 @@
-use Rattle.site.proofs.Turns.{record-steps}
 use mathlib.Core.Path.{_∙_}
 use lib.ListN.{length-set}
 use native.Mathlib.Omega.{arith}
+use Rattle.site.proofs.Turns.{record-steps}
 use borrow.Author.Needs.{needs}
 use Rattle.site.proofs.fields.put_record.Statement.{statement}
 use Rattle.site.proofs.fields.put_record.Tie as tie
@@ -44,7 +44,7 @@ same-length : tie.Need-same-length
 same-length c = c .before .before .put-word2 .kept .0 ∙ (simp length-set at (c .before .before .before .before .before .before .put-word .kept .0))
 
 returns : tie.Need-returns
-returns c = record-steps _ _ _ _ _ _ _ _ _ (c .before .before .before .before .before .before .before .before .record-at .ensures .0) (c .before .before .before .before .before .before .put-word .ensures) (c .before .before .put-word2 .ensures)
+returns c = record-steps _ _ _ _ _ _ _ _ _ (c .before .before .before .before .before .before .before .before .before .before .record-at .ensures .0) (c .before .before .before .before .before .before .put-word .ensures) (c .before .before .put-word2 .ensures)
 
 pub put-record-spec : {M : Type 1} → statement M
 put-record-spec =
