@@ -81,21 +81,25 @@ delete a b (x ∷ xs) = cond (hasEnds a b x) xs (x ∷ delete a b xs)
 unfoldable pub badEnds : ℕ → ℕ → ℕ → Bool
 badEnds N a b = some (eqb a 0 ∷ ltb N a ∷ eqb b 0 ∷ ltb N b ∷ eqb a b ∷ [])
 
--- "The ends may be given either way round"
+-- "The ends may be given either way round": the lower one
 unfoldable pub low : ℕ → ℕ → ℕ
 low a b = cond (ltb a b) a b
 
+-- the higher one
 unfoldable pub high : ℕ → ℕ → ℕ
 high a b = cond (ltb a b) b a
 
 -- ---- three arrays side by side: the ends u, the ends v and the weights
 
+-- the first array of a list of links
 unfoldable pub endsU : List Link → List ℕ
 endsU ls = map (λ l. l .u) ls
 
+-- the second
 unfoldable pub endsV : List Link → List ℕ
 endsV ls = map (λ l. l .v) ls
 
+-- the third
 unfoldable pub weights : List Link → List ℕ
 weights ls = map (λ l. l .weight) ls
 

@@ -63,11 +63,6 @@ module _ (s : List ℕ) (a b : ℕ) where
   place-end zero p h = refl
   place-end (suc f) p h = absurd (not-suc-le-zero h)
 
-  -- the record at the place, by its number
-  pub present-at : (q : ℕ) → after s (place s a b) ≡ q → atPlace s a b ≡ isLink s a b q
-  unfolding atPlace
-  present-at q e = rw e
-
   -- a number that names no record holds no link
   pub link-out : (q : ℕ) → named q ≡ false → isLink s a b q ≡ false
   unfolding isLink

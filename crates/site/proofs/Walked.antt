@@ -6,7 +6,6 @@ use mathlib.Core.List.{List}
 use lib.ListN.{length}
 use lib.Dec.{eqb}
 use borrow.Author.Tests.{lt-leb, le-leb, eq-eqb, ne-eqb}
-use native.Mathlib.Omega.{arith}
 use native.Mathlib.Nat.{not-suc-le-zero}
 use native.Mathlib.Numerals.{sub-one}
 use Rattle.site.specs.Layout.{SIZE, RECORDS, meters, first, firstFree, count, endU, endV, next}
@@ -19,11 +18,6 @@ use Rattle.site.specs.Walks.{linkFits, walkLinks, walkFree, headOk, chec
 pub named-no : (k : ℕ) → k < 1 → named k ≡ false
 unfolding named
 named-no k h = simp (lt-leb _ _ h)
-
--- a number above 256 names none
-pub named-big : (k : ℕ) → RECORDS < k → named k ≡ false
-unfolding named
-named-big k h = simp (le-leb 1 k (omega arith), lt-leb _ _ h)
 
 -- 1 to 256 name records
 pub named-yes : (k : ℕ) → 1 ≤ k → k ≤ RECORDS → named k ≡ true

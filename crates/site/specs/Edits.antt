@@ -22,6 +22,7 @@ unfoldable pub chained : ℕ → List ℕ → List ℕ
 chained zero s = s
 chained (suc n) s = setWord (chained n s) (nextAt (suc n)) (suc n + 1)
 
+-- n bytes of zero
 unfoldable pub zeros : ℕ → List ℕ
 zeros n = replicate n 0
 
@@ -33,6 +34,7 @@ beginBytes n = chained (RECORDS - 1) (setWord (set (zeros SIZE) metersAt n) free
 unfoldable pub beginRefusal : List ℕ → ℕ → ℕ
 beginRefusal s n = refusal ((1, not (eqb (length s) SIZE)) ∷ (7, ltb n 1 || ltb METERS n) ∷ [])
 
+-- what begin leaves
 unfoldable pub beginImage : List ℕ → ℕ → List ℕ
 beginImage s n = unlessRefused (beginRefusal s n) (beginBytes n) s
 
@@ -42,6 +44,7 @@ beginImage s n = unlessRefused (beginRefusal s n) (beginBytes n) s
 unfoldable pub slot : ℕ → ℕ
 slot p = cond (eqb p 0) firstAt (nextAt p)
 
+-- the record after record p in the link chain, 0 for none
 unfoldable pub after : List ℕ → ℕ → ℕ
 after s p = word s (slot p)
 
@@ -80,6 +83,7 @@ addBytes s a b w =
     (firstFree s) a b w (after s (place s a b)))
     (slot (place s a b)) (firstFree s)
 
+-- what add leaves: "The ends may be given either way round"
 unfoldable pub addImage : List ℕ → ℕ → ℕ → ℕ → List ℕ
 addImage s a b w = unlessRefused (addRefusal s a b w) (addBytes s (low a b) (high a b) w) s
 
@@ -103,5 +107,6 @@ removeBytes s a b =
     (after s (place s a b)) 0 0 0 (firstFree s))
     (slot (place s a b)) (next s (after s (place s a b)))
 
+-- what remove leaves
 unfoldable pub removeImage : List ℕ → ℕ → ℕ → List ℕ
 removeImage s a b = unlessRefused (removeRefusal s a b) (removeBytes s (low a b) (high a b)) s

@@ -6,7 +6,7 @@ use lib.ListN.{length}
 use lib.Dec.{leb, eqb}
 use Rattle.links.specs.Tests.{every, all, from}
 use Rattle.links.specs.Links.{Link, linkOk, ascending}
-use Rattle.site.specs.Layout.{SIZE, RECORDS, METERS, byte, meters, first, firstFree, count, endU, endV, weight, next, pad}
+use Rattle.site.specs.Layout.{SIZE, RECORDS, METERS, zeroBytes, byte, meters, first, firstFree, count, endU, endV, weight, next, pad}
 
 -- ---- chains: "Next and the two firsts name a record; zero ends a chain or marks it empty"
 
@@ -20,6 +20,7 @@ chain s (suc fuel) (suc k) = suc k ∷ chain s fuel (next s (suc k))
 unfoldable pub linkChain : List ℕ → List ℕ
 linkChain s = chain s (suc RECORDS) (first s)
 
+-- the free records, as far
 unfoldable pub freeChain : List ℕ → List ℕ
 freeChain s = chain s (suc RECORDS) (firstFree s)
 
@@ -35,9 +36,11 @@ links s = map (linkAt s) (linkChain s)
 
 -- ---- the rules
 
+-- byte i is zero
 unfoldable pub zeroAt : List ℕ → ℕ → Bool
 zeroAt s i = eqb (byte s i) 0
 
+-- "two zero bytes" of record k are zero
 unfoldable pub padZero : List ℕ → ℕ → Bool
 padZero s k = eqb (pad s k) 0
 
@@ -66,7 +69,7 @@ rules s =
     -- "Next and the two firsts name a record", where they are not zero
     ∷ all named (linkChain s ++ freeChain s)
     -- "every byte called zero above is zero": byte 1, bytes 8-15, the last two of each record
-    ∷ all (zeroAt s) (1 ∷ from 8 8)
+    ∷ all (zeroAt s) zeroBytes
     ∷ all (padZero s) (from 1 RECORDS)
     -- "N is 1 to 48"
     ∷ (leb 1 (meters s) && leb (meters s) METERS)
@@ -80,5 +83,6 @@ rules s =
     ∷ all (freeOk s) (freeChain s)
     ∷ []
 
+-- a site image: every rule holds
 unfoldable pub valid : List ℕ → Bool
 valid s = every (rules s)

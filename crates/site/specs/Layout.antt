@@ -1,8 +1,9 @@
 -- The site image, field by field: document 01's "2,064 bytes; two-byte fields are little-endian". No other file says where a field stands.
 -- Assumes nothing.
 use Prim.Native.Nat.{ℕ, _+_, _*_, _/_, _%_}
-use mathlib.Core.List.{List}
+use mathlib.Core.List.{List, _∷_}
 use lib.ListN.{getD, set}
+use Rattle.links.specs.Tests.{from}
 
 -- ---- sizes
 
@@ -20,6 +21,7 @@ METERS = 48
 
 -- ---- fields of one or two bytes
 
+-- byte i
 unfoldable pub byte : List ℕ → ℕ → ℕ
 byte s i = getD s i 0
 
@@ -44,6 +46,10 @@ freeAt = 4
 
 abbrev pub countAt : ℕ
 countAt = 6
+
+-- byte 1 and the eight from byte 8 on
+abbrev pub zeroBytes : List ℕ
+zeroBytes = 1 ∷ from 8 8
 
 unfoldable pub meters : List ℕ → ℕ
 meters s = byte s metersAt

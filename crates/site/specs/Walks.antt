@@ -5,9 +5,9 @@ use mathlib.Core.Bool.{Bool, _&&_, not}
 use mathlib.Core.List.{List, [], _∷_}
 use lib.ListN.{length}
 use lib.Dec.{leb, eqb}
-use Rattle.links.specs.Tests.{all, from}
+use Rattle.links.specs.Tests.{all}
 use Rattle.links.specs.Links.{linkOk, before, hasEnds, badEnds}
-use Rattle.site.specs.Layout.{SIZE, RECORDS, METERS, meters, first, firstFree, count, endU, endV, next}
+use Rattle.site.specs.Layout.{SIZE, RECORDS, METERS, zeroBytes, meters, first, firstFree, count, endU, endV, next}
 use Rattle.site.specs.Image.{linkAt, zeroAt, padZero, freeOk, named, valid}
 use Rattle.site.specs.Refusal.{refusal}
 use Rattle.site.specs.Edits.{after, place}
@@ -26,9 +26,11 @@ unfoldable pub walkFree : List ℕ → ℕ → ℕ → Bool
 walkFree s zero k = eqb k 0
 walkFree s (suc c) k = named k && (freeOk s k && walkFree s c (next s k))
 
+-- the header's zero bytes, and N
 unfoldable pub headOk : List ℕ → Bool
-headOk s = all (zeroAt s) (1 ∷ from 8 8) && (leb 1 (meters s) && leb (meters s) METERS)
+headOk s = all (zeroAt s) zeroBytes && (leb 1 (meters s) && leb (meters s) METERS)
 
+-- the length, the header, the count, and the two walks
 unfoldable pub checks : List ℕ → Bool
 checks s =
     eqb (length s) SIZE

@@ -13,6 +13,13 @@ pub const METERS: usize = 48;
 
 pub const METERS_AT: usize = 0;
 
+// The zero bytes of the header: one, and a run of them.
+pub const ZERO_AT: usize = 1;
+
+pub const ZEROS_AT: usize = 8;
+
+pub const ZEROS_LEN: usize = 8;
+
 pub const FIRST_AT: usize = 2;
 
 pub const FREE_AT: usize = 4;

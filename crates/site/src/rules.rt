@@ -62,7 +62,10 @@ fn head_ok(s: &[u8]) -> bool
     requires { ⌜ length (now s) ≡ SIZE ⌝ }
     ensures { λ r. ⌜ r ≡ headOk (now (s .entry)) ⌝ }
 {
-    let zero = both(s[1] == 0, zero_bytes(s, 8, 8));
+    let zero = both(
+        s[fields::ZERO_AT] == 0,
+        zero_bytes(s, fields::ZEROS_AT, fields::ZEROS_LEN),
+    );
     let meters = fields::wide(s[fields::METERS_AT]);
     both(zero, both(1 <= meters, meters <= fields::METERS))
 }
