@@ -7,10 +7,10 @@ use lib.ListN.{length}
 use lib.Dec.{eqb}
 use borrow.Author.Tests.{le-leb, lt-ltb, eq-eqb, leb-true, ltb-true, eqb-true}
 use native.Mathlib.Omega.{arith}
-use Rattle.links.specs.Tests.{every, all, any}
+use Rattle.lists.specs.Tests.{every, all, any}
 use Rattle.links.specs.Links.{Link, linkOk, hasEnds, before, ascendingFrom, ascending, present, weightOf, timesOf, insert, delete}
 use Rattle.links.specs.Survey.{LinkOf}
-use Rattle.links.proofs.Tests.{and-left, and-right, and-both, or-left, or-right, every-at, all-head, all-tail, all-cons, same-test}
+use Rattle.lists.proofs.Tests.{and-left, and-right, and-both, or-left, or-right, every-at, all-head, all-tail, all-cons, same-test}
 use Rattle.links.proofs.Order.{Before, less, before-yes, before-true, before-trans, before-irrefl, before-else}
 
 -- ---- one link

@@ -5,10 +5,10 @@ use mathlib.Core.Path.{_≡_, refl, sym, ap, _∙_, subst}
 use mathlib.Core.List.{List, [], _∷_}
 use lib.ListN.{length, length-map}
 use native.Mathlib.Omega.{arith}
-use Rattle.links.specs.Tests.{all}
+use Rattle.lists.specs.Tests.{all}
 use Rattle.links.specs.Links.{Link, linkOk, endsU, endsV, weights, linkIn, linksFrom, linksOf}
 use Rattle.links.specs.Survey.{LinkOf, Survey, Arrays}
-use Rattle.links.proofs.Tests.{Equal, equal, other, equal?, all-head, all-tail}
+use Rattle.lists.proofs.Tests.{Equal, equal, other, equal?, all-head, all-tail}
 use Rattle.links.proofs.Altered.{link-of}
 
 -- as many ends u as links

@@ -6,10 +6,10 @@ use mathlib.Core.List.{List, [], _∷_}
 use lib.Dec.{leb, eqb}
 use borrow.Author.Tests.{lt-ltb, le-ltb, le-leb, ne-eqb, eqb-true, leb-true}
 use native.Mathlib.Omega.{arith}
-use Rattle.links.specs.Tests.{all, from}
+use Rattle.lists.specs.Tests.{all, from}
 use Rattle.links.specs.Links.{Link, linkOk, hasEnds, isAt, timesOf, degree, low, high}
 use Rattle.links.specs.Survey.{LinkOf, Survey}
-use Rattle.links.proofs.Tests.{Equal, equal, other, equal?, and-left, and-right, all-head, all-tail}
+use Rattle.lists.proofs.Tests.{Equal, equal, other, equal?, and-left, and-right, all-head, all-tail}
 use Rattle.links.proofs.Altered.{link-of, ends-yes, ends-no, ascending-once}
 
 module _ (m : ℕ) where

@@ -1,5 +1,6 @@
-pub mod Tests
 pub mod Order
 pub mod Altered
 pub mod Degree
 pub mod Arrays
+pub mod Walk
+pub mod Halving

@@ -6,7 +6,7 @@ use lib.Dec.{ltb, eqb}
 use borrow.Author.Tests.{le-ltb, lt-ltb, eq-eqb, ltb-true, ltb-false, eqb-true}
 use native.Mathlib.Omega.{arith}
 use Rattle.links.specs.Links.{before}
-use Rattle.links.proofs.Tests.{Equal, equal, other, equal?, and-left, and-right}
+use Rattle.lists.proofs.Tests.{Equal, equal, other, equal?, and-left, and-right}
 
 -- the ends (a, b) stand before the ends (c, d), as facts
 pub data Before (a b c d : ℕ) : Type 0 where

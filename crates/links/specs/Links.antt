@@ -4,7 +4,7 @@ use mathlib.Core.Bool.{Bool, true, _&&_, _||_, cond}
 use mathlib.Core.List.{List, [], _∷_, map}
 use lib.ListN.{length, getD}
 use lib.Dec.{leb, ltb, eqb}
-use Rattle.links.specs.Tests.{every, some, any}
+use Rattle.lists.specs.Tests.{every, some, any}
 
 -- ---- one link
 

@@ -3,8 +3,8 @@ use Prim.Native.Nat.{ℕ, _≤_, _<_}
 use mathlib.Core.Bool.{true}
 use mathlib.Core.Path.{_≡_}
 use mathlib.Core.List.{List}
-use lib.ListN.{length}
-use Rattle.links.specs.Tests.{all}
+use lib.ListN.{length, getD}
+use Rattle.lists.specs.Tests.{all}
 use Rattle.links.specs.Links.{Link, linkOk, ascending, linksOf}
 
 -- "1 ≤ u < v ≤ N and weight 1 to 65,535", as facts
@@ -28,3 +28,7 @@ pub record Arrays (N : ℕ) (us vs ws : List ℕ) : Type 0 where
   pub same-v : length vs ≡ length us
   pub same-w : length ws ≡ length us
   pub survey : Survey N (linksOf us vs ws)
+
+-- no lower end is below an earlier one: the first array of a survey's links
+abbrev pub Rising : List ℕ → Type 0
+Rising us = (j k : ℕ) → j ≤ k → k < length us → getD us j 0 ≤ getD us k 0

@@ -1,1 +1,22 @@
-// Links, and lists of them: what the kinds know of a site beside its number of meters. The crate has definitions (specs/) and laws (proofs/); it has no code of its own yet.
+// Links, and lists of them: what the kinds know of a site beside its number of meters. Definitions are in specs/, their laws in proofs/.
+ghost use Prim.Native.Nat.{ℕ, _≤_, _<_};
+ghost use lib.ListN.{length, getD};
+ghost use Rattle.links.specs.Survey.{Rising};
+
+// The index of the first link whose lower end is m or above: the links rise by it, so halving finds it.
+pub fn first_link(us: &[u8], m: usize) -> usize
+    requires { ⌜ Rising (now us) × (length (now us) ≤ 256) ⌝ }
+    ensures { λ r. ⌜ (r ≤ length (now (us .entry))) × ((k : ℕ) → k < r → getD (now (us .entry)) k 0 < m) × ((k : ℕ) → r ≤ k → k < length (now (us .entry)) → m ≤ getD (now (us .entry)) k 0) ⌝ }
+{
+    let mut low: usize = 0;
+    let mut high = us.len();
+    while low < high {
+        let mid = (low + high) / 2;
+        if (us[mid] as usize) < m {
+            low = mid + 1;
+        } else {
+            high = mid;
+        }
+    }
+    low
+}

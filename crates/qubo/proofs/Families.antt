@@ -8,6 +8,7 @@ use native.Mathlib.Omega.{arith}
 use native.Mathlib.Decide.{ℕ-discrete}
 use lib.ListN.{length}
 use lib.IntN.{ℤ, pos, natAbs, _+ℤ_, _*ℤ_, +ℤ-idl, +ℤ-idr, +ℤ-assoc, *ℤ-zero}
+use Rattle.lists.specs.Sums.{sumTo, sumOf}
 use Rattle.qubo.specs.Formula.{Term, Formula}
 use Rattle.qubo.specs.Table.{only, coef, termConstant, constantOf}
 use Rattle.qubo.specs.Norm.{entriesNorm, termNorm, formulaNorm}
@@ -68,6 +69,17 @@ sumEach-split n (suc m) f =
 pub sumEach-times : (q : ℤ) (n : ℕ) (f : ℕ → ℤ) → q *ℤ sumEach n f ≡ sumEach n (λ k. q *ℤ f k)
 sumEach-times q zero f = *ℤ-zero q
 sumEach-times q (suc n) f = *ℤ-+ℤ q (sumEach n f) (f (suc n)) ∙ ap (λ z. z +ℤ q *ℤ f (suc n)) (sumEach-times q n f)
+
+-- ---- sums of whole numbers from 0
+pub sumEach-pos : (n : ℕ) (f : ℕ → ℕ) → sumEach n (λ k. pos (f k)) ≡ pos (sumTo n f)
+unfolding sumTo
+sumEach-pos zero f = refl
+sumEach-pos (suc n) f = ap (λ z. z +ℤ pos (f (suc n))) (sumEach-pos n f)
+
+pub sumOver-pos : {A : Type 0} (xs : List A) (f : A → ℤ) (g : A → ℕ) → ((x : A) → f x ≡ pos (g x)) → sumOver xs f ≡ pos (sumOf xs g)
+unfolding sumOf
+sumOver-pos [] f g h = refl
+sumOver-pos (x ∷ xs) f g h = ap₂ _+ℤ_ (h x) (sumOver-pos xs f g h)
 
 -- ---- what is added up over the terms of a formula
 pub constant-sum : (f : Formula) → constantOf f ≡ sumOver f termConstant

@@ -176,6 +176,14 @@ add-only (suc n) G m i r a b h =
           ∙ add-only n G m i r a (omega arith) (λ t p q. h t p (omega arith))
     ]
 
+-- a family of which no part adds anything
+pub each-nothing : (n : ℕ) (G : ℕ → Formula) (i : ℕ) → ((t : ℕ) → 1 ≤ t → t ≤ n → (r : List ℤ) → addTerms (G t) i r ≡ r) → (r : List ℤ) → addTerms (eachOf n G) i r ≡ r
+each-nothing zero G i h r = add-none i r
+each-nothing (suc n) G i h r =
+    add-append (eachOf n G) (G (suc n)) i r
+    ∙ ap (addTerms (G (suc n)) i) (each-nothing n G i (λ t p q. h t p (omega arith)) r)
+    ∙ h (suc n) (omega arith) (omega arith) r
+
 -- ---- room
 pub added-abs : (f : Formula) (i : ℕ) (r : List ℤ) (k : ℕ) → natAbs (getD (addTerms f i r) k (pos 0)) ≤ natAbs (getD r k (pos 0)) + formulaNorm f
 unfolding addTerms

@@ -19,7 +19,7 @@ use Rattle.qubo.proofs.Ring.{var, con, _⊕_, _⊖_, _⊗_, neg, solve}
 use Rattle.qubo.proofs.TableValue.{only-same, only-other, single-square, pair-square}
 use Rattle.qubo.proofs.TableBound.{coef-bound}
 use Rattle.qubo.proofs.Families.{sumEach-eq, sumEach-times, coef-append, coef-bits}
-use Rattle.qubo.proofs.RowAction.{termCell, cell-sum, plus-eq, plus-plus, plus-none, add-one-term, Absent}
+use Rattle.qubo.proofs.RowAction.{termCell, cell-sum, plus-eq, plus-plus, plus-none, add-one-term, Absent, add-absent}
 
 add-is : (f : Formula) (i : ℕ) (r : List ℤ) → plus r (cell f i) ≡ addTerms f i r
 unfolding addTerms
@@ -218,6 +218,14 @@ pair-below q i j r h = add-times q i ((j, pos 1) ∷ []) r ∙ plus-none r (λ k
   where
     none : (k : ℕ) → q *ℤ (only j (pos 1) (i + k) +ℤ pos 0) ≡ pos 0
     none k = ap (λ z. q *ℤ (z +ℤ pos 0)) (only-other j (i + k) (pos 1) (omega arith)) ∙ *ℤ-zero q
+
+-- a pair stands in the row of its lower bit alone
+pub pair-nothing : (w : ℤ) (p q i : ℕ) (r : List ℤ) → p < q → (p ≡ i → ⊥) → addTerms (pair w p q ∷ []) i r ≡ r
+pair-nothing w p q i r h ne =
+    elim (ℕ-discrete q i) [
+      | yes e ↦ product-swap w (bit p) (bit q) i r ∙ ap (λ (j : ℕ). addTerms (pair w j p ∷ []) i r) e ∙ pair-below w i p r (omega arith)
+      | no e ↦ add-absent (pair w p q ∷ []) i r (pair-absent w p q i ne e)
+    ]
 
 -- ---- a product of forms whose coefficients of bit i are u and w: a number of bit i itself, and bit i times the sums of the two
 -- that number, but for what comes of bit i's own entries

@@ -6,9 +6,9 @@ use mathlib.Core.List.{List, [], _∷_, _++_, map}
 use lib.ListN.{length, length-append}
 use borrow.Author.Tests.{eqb-false}
 use native.Mathlib.Omega.{arith}
-use Rattle.links.specs.Tests.{all}
+use Rattle.lists.specs.Tests.{all}
 use Rattle.links.specs.Links.{Link, linkOk, low, high, present, insert}
-use Rattle.links.proofs.Tests.{all-tail, all-append, all-cons}
+use Rattle.lists.proofs.Tests.{all-tail, all-append, all-cons}
 use Rattle.links.proofs.Altered.{link-ok, insert-all, insert-ascends}
 use Rattle.site.specs.Layout.{SIZE, RECORDS, meters, first, firstFree, count, next}
 use Rattle.site.specs.Image.{freeChain, linkAt, links, padZero, freeOk, named, times, valid}

@@ -7,9 +7,9 @@ use lib.ListN.{length, set, length-set, length-replicate}
 use lib.Dec.{eqb}
 use borrow.Author.Tests.{eq-eqb, le-leb}
 use native.Mathlib.Omega.{arith}
-use Rattle.links.specs.Tests.{every, all, from}
+use Rattle.lists.specs.Tests.{every, all, from}
 use Rattle.links.specs.Links.{ascending}
-use Rattle.links.proofs.Tests.{and-both, Equal, equal, other, equal?, length-from}
+use Rattle.lists.proofs.Tests.{and-both, Equal, equal, other, equal?, length-from}
 use Rattle.site.specs.Layout.{SIZE, RECORDS, METERS, byte, word, setWord, metersAt, firstAt, freeAt, countAt, recordAt, weightAt, nextAt, padAt, meters, first, firstFree, count, endU, endV, weight, next, pad}
 use Rattle.site.specs.Image.{freeChain, linkAt, links, zeroAt, padZero, freeOk, valid}
 use Rattle.site.specs.Edits.{chained, zeros, beginBytes}

@@ -9,7 +9,7 @@ use borrow.Author.Tests.{eq-eqb, ne-eqb, ltb-false, not-false}
 use native.Mathlib.Omega.{arith}
 use native.Mathlib.Nat.{suc-ne-zero}
 use Rattle.links.specs.Links.{badEnds, low, high, present}
-use Rattle.links.proofs.Tests.{or-right}
+use Rattle.lists.proofs.Tests.{or-right}
 use Rattle.site.specs.Layout.{SIZE, RECORDS, METERS, count, metersAt, freeAt, meters, firstFree, setWord}
 use Rattle.site.specs.Image.{links, valid}
 use Rattle.site.specs.Refusal.{refusal}

@@ -9,8 +9,8 @@ use lib.Dec.{leb, eqb}
 use borrow.Author.Tests.{eq-eqb, ne-eqb, eqb-true, leb-true}
 use native.Mathlib.Omega.{arith}
 use native.Mathlib.Nat.{not-suc-le-zero}
-use Rattle.links.specs.Tests.{all, from}
-use Rattle.links.proofs.Tests.{and-left, and-right, and-both, Equal, equal, other, equal?, length-from}
+use Rattle.lists.specs.Tests.{all, from}
+use Rattle.lists.proofs.Tests.{and-left, and-right, and-both, Equal, equal, other, equal?, length-from}
 use Rattle.site.specs.Layout.{RECORDS, next}
 use Rattle.site.specs.Image.{chain, named, times}
 

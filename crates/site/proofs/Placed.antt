@@ -8,9 +8,9 @@ use borrow.Author.Tests.{ne-eqb}
 use native.Mathlib.Omega.{arith}
 use native.Mathlib.Nat.{not-suc-le-zero}
 use native.Mathlib.Numerals.{sub-one}
-use Rattle.links.specs.Tests.{all, any}
+use Rattle.lists.specs.Tests.{all, any}
 use Rattle.links.specs.Links.{Link, before, hasEnds, ascending, present}
-use Rattle.links.proofs.Tests.{and-left, and-right, and-both}
+use Rattle.lists.proofs.Tests.{and-left, and-right, and-both}
 use Rattle.links.proofs.Order.{before-true, before-irrefl, before-else}
 use Rattle.links.proofs.Altered.{ends-no, ends-not, rises-ascends, rises-sooner, rises-none}
 use Rattle.site.specs.Layout.{RECORDS, first, firstFree, next, endU, endV}

@@ -7,9 +7,9 @@ use lib.Dec.{eqb, ltb}
 use borrow.Author.Tests.{eq-eqb, ne-eqb, eqb-false, ltb-true, ltb-false, not-false}
 use native.Mathlib.Omega.{arith}
 use native.Mathlib.Nat.{suc-ne-zero}
-use Rattle.links.specs.Tests.{some}
+use Rattle.lists.specs.Tests.{some}
 use Rattle.links.specs.Links.{badEnds, low, high, present}
-use Rattle.links.proofs.Tests.{or-left, or-right}
+use Rattle.lists.proofs.Tests.{or-left, or-right}
 use Rattle.site.specs.Layout.{meters, firstFree}
 use Rattle.site.specs.Image.{links, valid}
 use Rattle.site.specs.Refusal.{refusal, unlessRefused}

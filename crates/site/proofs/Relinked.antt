@@ -4,9 +4,9 @@ use mathlib.Core.Bool.{Bool, true}
 use mathlib.Core.Path.{_≡_, refl, sym, ap, _∙_, subst}
 use mathlib.Core.List.{List, [], _∷_, _++_, map}
 use native.Mathlib.Omega.{arith}
-use Rattle.links.specs.Tests.{all}
+use Rattle.lists.specs.Tests.{all}
 use Rattle.links.specs.Links.{Link, hasEnds, insert, delete}
-use Rattle.links.proofs.Tests.{and-left, and-right, and-both}
+use Rattle.lists.proofs.Tests.{and-left, and-right, and-both}
 use Rattle.site.specs.Layout.{next}
 use Rattle.site.specs.Image.{linkAt, named, times}
 use Rattle.site.specs.Edits.{after}

@@ -5,9 +5,9 @@ use mathlib.Core.Path.{_≡_, sym, ap, _∙_, subst}
 use mathlib.Core.List.{List, [], _∷_, _++_, map}
 use lib.ListN.{length, length-append}
 use native.Mathlib.Omega.{arith}
-use Rattle.links.specs.Tests.{all}
+use Rattle.lists.specs.Tests.{all}
 use Rattle.links.specs.Links.{linkOk, hasEnds, low, high, delete}
-use Rattle.links.proofs.Tests.{and-left, and-right, all-append, all-cons, all-tail}
+use Rattle.lists.proofs.Tests.{and-left, and-right, all-append, all-cons, all-tail}
 use Rattle.links.proofs.Altered.{delete-all, delete-length, delete-ascends}
 use Rattle.site.specs.Layout.{SIZE, RECORDS, meters, first, firstFree, count, next}
 use Rattle.site.specs.Image.{linkChain, freeChain, linkAt, links, padZero, freeOk, named, times, valid}

@@ -7,9 +7,9 @@ use lib.ListN.{length}
 use lib.Dec.{eqb}
 use borrow.Author.Tests.{eq-eqb, ne-eqb}
 use native.Mathlib.Omega.{arith}
-use Rattle.links.specs.Tests.{every, all, from}
+use Rattle.lists.specs.Tests.{every, all, from}
 use Rattle.links.specs.Links.{Link}
-use Rattle.links.proofs.Tests.{and-both, Equal, equal, other, equal?}
+use Rattle.lists.proofs.Tests.{and-both, Equal, equal, other, equal?}
 use Rattle.site.specs.Layout.{SIZE, RECORDS, byte, word, setWord, setRecord, metersAt, firstAt, freeAt, countAt, recordAt, weightAt, nextAt, padAt, meters, firstFree, count, endU, endV, weight, next, pad}
 use Rattle.site.specs.Image.{linkAt, zeroAt, padZero, freeOk}
 use Rattle.site.specs.Edits.{slot, after}

@@ -10,9 +10,9 @@ use borrow.Author.Tests.{eq-eqb, ne-eqb, le-leb}
 use native.Mathlib.Omega.{arith}
 use native.Mathlib.Nat.{not-suc-le-zero}
 use native.Mathlib.Numerals.{add-one, sub-one}
-use Rattle.links.specs.Tests.{every, some, all, from}
+use Rattle.lists.specs.Tests.{every, some, all, from}
 use Rattle.links.specs.Links.{linkOk, before, hasEnds, badEnds}
-use Rattle.links.proofs.Tests.{and-left, and-true}
+use Rattle.lists.proofs.Tests.{and-left, and-true}
 use Rattle.site.specs.Layout.{SIZE, RECORDS, METERS, metersAt, recordAt, meters, first, freeAt, countAt, firstFree, count, setWord, setRecord, byte, word, endU, endV, weight, next, pad}
 use Rattle.site.specs.Image.{zeroAt, linkAt, padZero, freeOk, named, valid}
 use Rattle.site.specs.Walks.{linkFits, isLink, headOk, walkLinks, walkFree}

@@ -7,10 +7,10 @@ use lib.ListN.{length, getD, length-append, length-map}
 use lib.Dec.{leb, eqb}
 use borrow.Author.Tests.{le-leb, eq-eqb, ne-eqb, eqb-true, leb-true}
 use native.Mathlib.Omega.{arith}
-use Rattle.links.specs.Tests.{every, all, from}
+use Rattle.lists.specs.Tests.{every, all, from}
 use Rattle.links.specs.Links.{linkOk, before, ascendingFrom, ascending}
 use Rattle.links.specs.Survey.{Survey}
-use Rattle.links.proofs.Tests.{and-left, and-right, and-both, same-test, every-at, all-head, all-tail, all-cons, all-append}
+use Rattle.lists.proofs.Tests.{and-left, and-right, and-both, same-test, every-at, all-head, all-tail, all-cons, all-append}
 use Rattle.links.proofs.Altered.{ascending-from, link-of}
 use Rattle.site.specs.Layout.{SIZE, RECORDS, METERS, meters, first, firstFree, count, endU, endV, next}
 use Rattle.site.specs.Image.{linkChain, freeChain, linkAt, links, zeroAt, padZero, freeOk, named, times, onceIn, rules, valid}

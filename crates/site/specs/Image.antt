@@ -4,7 +4,7 @@ use mathlib.Core.Bool.{Bool, _&&_, cond}
 use mathlib.Core.List.{List, [], _∷_, _++_, map}
 use lib.ListN.{length}
 use lib.Dec.{leb, eqb}
-use Rattle.links.specs.Tests.{every, all, from}
+use Rattle.lists.specs.Tests.{every, all, from}
 use Rattle.links.specs.Links.{Link, linkOk, ascending}
 use Rattle.site.specs.Layout.{SIZE, RECORDS, METERS, zeroBytes, byte, meters, first, firstFree, count, endU, endV, weight, next, pad}
 

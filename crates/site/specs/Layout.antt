@@ -3,7 +3,7 @@
 use Prim.Native.Nat.{ℕ, _+_, _*_, _/_, _%_}
 use mathlib.Core.List.{List, _∷_}
 use lib.ListN.{getD, set}
-use Rattle.links.specs.Tests.{from}
+use Rattle.lists.specs.Tests.{from}
 
 -- ---- sizes
 

@@ -5,7 +5,7 @@ use mathlib.Core.Bool.{Bool, _&&_, not}
 use mathlib.Core.List.{List, [], _∷_}
 use lib.ListN.{length}
 use lib.Dec.{leb, eqb}
-use Rattle.links.specs.Tests.{all}
+use Rattle.lists.specs.Tests.{all}
 use Rattle.links.specs.Links.{linkOk, before, hasEnds, badEnds}
 use Rattle.site.specs.Layout.{SIZE, RECORDS, METERS, zeroBytes, meters, first, firstFree, count, endU, endV, next}
 use Rattle.site.specs.Image.{linkAt, zeroAt, padZero, freeOk, named, valid}

@@ -5,7 +5,7 @@ ghost use mathlib.Core.Bool.{_&&_, _||_};
 ghost use Prim.Native.Nat.{_+_, _-_, _<_, _≤_};
 ghost use lib.ListN.{length};
 ghost use lib.Dec.{eqb};
-ghost use Rattle.links.specs.Tests.{all, from};
+ghost use Rattle.lists.specs.Tests.{all, from};
 ghost use Rattle.links.specs.Links.{before, linkOk};
 ghost use Rattle.site.specs.Layout.{SIZE, RECORDS, first, firstFree};
 ghost use Rattle.site.specs.Image.{zeroAt, named, valid};

@@ -5,7 +5,7 @@ use Prim.Native.Nat.{_+_, _≤_}
 use mathlib.Core.Path.{_≡_, refl, sym, _∙_}
 use lib.ListN.{length}
 use native.Mathlib.Omega.{arith}
-use Rattle.links.specs.Tests.{all, from}
+use Rattle.lists.specs.Tests.{all, from}
 use Rattle.site.specs.Image.{zeroAt}
 use Rattle.site.proofs.rules.zero_bytes.Statement.{statement}
 use Rattle.site.proofs.rules.zero_bytes.Tie as tie

@@ -6,7 +6,7 @@ use mathlib.Core.List.{List, [], _∷_, _++_}
 use lib.ListN.{length, getD}
 use lib.Dec.{eqb}
 use borrow.Author.Tests.{eqb-true, eqb-false}
-use Rattle.links.specs.Tests.{every, all, from}
+use Rattle.lists.specs.Tests.{every, all, from}
 
 -- ---- both, either
 

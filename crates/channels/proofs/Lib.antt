@@ -1,0 +1,12 @@
+pub mod Worth
+pub mod Bound
+pub mod Load
+pub mod Step
+pub mod Repaired
+pub mod AnyPenalty
+pub mod Demands
+pub mod Worked
+pub mod Gathering
+pub mod Clashing
+pub mod ClashRows
+pub mod Repairing

@@ -1,0 +1,85 @@
+use Prim.Native.Nat.{_-_}
+use mathlib.Core.Path.{_∙_}
+use lib.ListN.{length}
+use native.Mathlib.Omega.{arith}
+use Rattle.links.proofs.Walk.{link-at, Summed, summed-start, summed-turn, summed-end}
+use Rattle.channels.proofs.Clashing.{clashingAt, clashing-sum, clashing-small, clashing-link, clashing-room, ends-fit}
+use Rattle.channels.proofs.clashes.clashing.Statement.{statement}
+use Rattle.channels.proofs.clashes.clashing.Tie as tie
+
+abbrev Inv-loop : tie.InvT-loop
+Inv-loop bits us vs ws meters n sum₀ k₀ sum k = Summed us vs ws (clashingAt n bits) k sum
+
+abbrev μ-loop : tie.MeasureT-loop
+μ-loop bits us vs ws meters n sum₀ k₀ sum k = length us - k
+
+loop-holds : tie.Need-loop-holds Inv-loop μ-loop
+loop-holds c = summed-start _ _ _ _
+
+shared-slice-read-shared : tie.Need-shared-slice-read-shared Inv-loop μ-loop
+shared-slice-read-shared c = omega arith
+
+shared-slice-read-shared-2 : tie.Need-shared-slice-read-shared-2 Inv-loop μ-loop
+shared-slice-read-shared-2 c = omega (arith, c .before .before .before .before .before .before .before .before .pre .0 .arrays .same-v)
+
+shared-requires : tie.Need-shared-requires Inv-loop μ-loop
+shared-requires c κs =
+    let s = c .before .before .before .before .before .before .before .before in
+    ends-fit _ _ _ _ _ _ (s .pre .0) (s .pre .1) _ (omega arith)
+
+mul-sum : tie.Need-mul-sum Inv-loop μ-loop
+mul-sum c = omega arith
+
+shared-slice-read-sum : tie.Need-shared-slice-read-sum Inv-loop μ-loop
+shared-slice-read-sum c = omega (arith, c .before .before .before .before .before .before .before .before .before .before .pre .0 .arrays .same-w)
+
+cast-sum : tie.Need-cast-sum Inv-loop μ-loop
+cast-sum c = omega (arith, link-at _ _ _ _ (c .before .before .before .before .before .before .before .before .before .before .pre .0 .arrays) (c .before .before .before .before .before .loop .k) (omega arith))
+
+mul-sum-2 : tie.Need-mul-sum-2 Inv-loop μ-loop
+mul-sum-2 c =
+    let l = c .before .before .before .before .before .loop in
+    let s = c .before .before .before .before .before .before .before .before .before .before in
+    omega (arith, clashing-room _ _ _ _ _ _ _ (c .before .shared .ensures) _ _ (s .pre .0) (s .pre .1 .bits) (l .inv) (omega arith))
+
+add-sum : tie.Need-add-sum Inv-loop μ-loop
+add-sum c =
+    let l = c .before .before .before .before .before .loop in
+    let s = c .before .before .before .before .before .before .before .before .before .before in
+    omega (arith, clashing-room _ _ _ _ _ _ _ (c .before .shared .ensures) _ _ (s .pre .0) (s .pre .1 .bits) (l .inv) (omega arith))
+
+add-k : tie.Need-add-k Inv-loop μ-loop
+add-k c = omega arith
+
+loop-less : tie.Need-loop-less Inv-loop μ-loop
+loop-less c = omega arith
+
+loop-again : tie.Need-loop-again Inv-loop μ-loop
+loop-again c =
+    summed-turn _ _ _ _ _ _ (c .before .before .before .before .before .loop .inv) _ (omega arith) (clashing-link _ _ _ _ _ _ _ (c .before .shared .ensures))
+
+returns : tie.Need-returns Inv-loop μ-loop
+returns c =
+    let s = c .before .before .before .before .before .before in
+    let e = summed-end _ _ _ _ _ _ (c .before .loop .inv) (omega arith) in
+    (e ∙ clashing-sum _ _ _, rw e (clashing-small _ _ _ _ (s .pre .0 .arrays .survey) (s .pre .0 .high) (s .pre .1 .bits)))
+
+pub clashing-spec : {M : Type 1} → statement M
+clashing-spec =
+    tie.close
+    (tie.spec
+    Inv-loop
+    μ-loop
+    loop-holds
+    shared-slice-read-shared
+    shared-slice-read-shared-2
+    shared-requires
+    mul-sum
+    shared-slice-read-sum
+    cast-sum
+    mul-sum-2
+    add-sum
+    add-k
+    loop-less
+    loop-again
+    returns)

@@ -1,0 +1,30 @@
+use mathlib.Core.Path.{_≡_, ap, _∙_}
+use borrow.Author.Needs.{needs}
+use Rattle.channels.specs.Plans.{clashWeight}
+use Rattle.channels.proofs.decode.Statement.{statement}
+use Rattle.channels.proofs.decode.Tie as tie
+
+repair-all-requires : tie.Need-repair-all-requires
+repair-all-requires c κs = search needs
+
+clash-weight-requires : tie.Need-clash-weight-requires
+clash-weight-requires c κs = search needs
+
+repaired-count-requires : tie.Need-repaired-count-requires
+repaired-count-requires c κs = search needs
+
+same-length : tie.Need-same-length
+same-length c = search needs
+
+returns : tie.Need-returns
+returns c = (c .before .before .before .before .before .repair-all .ensures, (c .before .clash-weight .ensures ∙ ap (clashWeight _) (c .before .before .before .before .before .repair-all .ensures), c .repaired-count .ensures))
+
+pub decode-spec : {M : Type 1} → statement M
+decode-spec =
+    tie.close
+    (tie.spec
+    repair-all-requires
+    clash-weight-requires
+    repaired-count-requires
+    same-length
+    returns)

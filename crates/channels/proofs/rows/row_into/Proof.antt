@@ -1,0 +1,34 @@
+use native.Mathlib.Omega.{arith}
+use borrow.Author.Needs.{needs}
+use Rattle.channels.proofs.ClashRows.{bits-few, hots-ready, clashes-ready, row-done}
+use Rattle.channels.proofs.rows.row_into.Statement.{statement}
+use Rattle.channels.proofs.rows.row_into.Tie as tie
+
+clear-requires : tie.Need-clear-requires
+clear-requires c κs = search needs
+
+add-one-hots-requires : tie.Need-add-one-hots-requires
+add-one-hots-requires c κs =
+    let s = c .before .before .before .before .before .before .before in
+    let p = s .pre in
+    let h = hots-ready _ _ _ _ _ _ _ (p .0) (p .1) _ (p .2) _ (c .before .before .clear .ensures) in
+    (p .0 .low, p .3, h .0, omega (arith, bits-few _ _ _ _ _ (p .0)), h .1)
+
+add-clashes-requires : tie.Need-add-clashes-requires
+add-clashes-requires c κs =
+    let p = c .before .before .before .before .before .before .before .before .before .before .pre in
+    let h = clashes-ready _ _ _ _ _ _ _ (p .0) (p .1) _ (p .2) _ (c .before .before .before .before .before .clear .ensures) _ (c .before .before .add-one-hots .ensures) in
+    ((p .0, h .0, p .3), h .1)
+
+same-length : tie.Need-same-length
+same-length c = search needs
+
+returns : tie.Need-returns
+returns c =
+    let p = c .before .before .before .before .before .before .before .before .before .before .before .before .pre in
+    row-done _ _ _ _ _ _ _ (p .0) (p .1) _ (p .2) _ (c .before .before .before .before .before .before .before .clear .ensures) _ (c .before .before .before .before .add-one-hots .ensures) _ (c .before .add-clashes .ensures)
+
+pub row-into-spec : {M : Type 1} → statement M
+row-into-spec =
+    tie.close
+    (tie.spec clear-requires add-one-hots-requires add-clashes-requires same-length returns)

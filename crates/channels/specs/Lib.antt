@@ -1,0 +1,5 @@
+pub mod Formula
+pub mod Plans
+pub mod Repair
+pub mod Best
+pub mod Lent

@@ -1,0 +1,151 @@
+// One-hot choices: each of N meters takes one of the choices 1..n. Channels and groups stand above this.
+// A meter's n bits are lent as a part of the assignment by themselves.
+ghost use Prim.Native.Nat.{ℕ, _+_, _*_, _≤_, _<_, _^_};
+ghost use mathlib.Core.Bool.{true};
+ghost use mathlib.Core.Path.{_≡_};
+ghost use lib.ListN.{length, getD};
+ghost use Rattle.lists.specs.Sums.{sumTo, lowest, nth};
+ghost use Rattle.qubo.specs.Formula.{Bits, Assignment};
+ghost use Rattle.qubo.specs.Rows.{addTerms, Room};
+ghost use Rattle.onehot.specs.Choices.{bitAt, oneHots, missSquared, misses, areChoices, code};
+
+// How many bits of a part are set.
+pub fn set_count(part: &[u8]) -> usize
+    requires { ⌜ Bits (now part) ⌝ }
+    ensures { λ r. ⌜ r ≡ sumTo (length (now (part .entry))) (nth (now (part .entry))) ⌝ }
+{
+    let mut sum: usize = 0;
+    let mut i = 0;
+    while i < part.len() {
+        sum += part[i] as usize;
+        i += 1;
+    }
+    sum
+}
+
+// The lowest choice that is set in a part, 0 where none is.
+pub fn lowest_set(part: &[u8]) -> usize
+    ensures { λ r. ⌜ r ≡ lowest (length (now (part .entry))) (nth (now (part .entry))) ⌝ }
+{
+    let mut i = 0;
+    while i < part.len() {
+        if part[i] != 0 {
+            return i + 1;
+        }
+        i += 1;
+    }
+    0
+}
+
+// On how many choices two parts both have their bit set.
+fn overlap(part: &[u8], other: &[u8]) -> u64
+    requires { ⌜ (length (now other) ≡ length (now part)) × (length (now part) ≤ 2 ^ 32) × Bits (now part) × Bits (now other) ⌝ }
+    ensures { λ r. ⌜ r ≡ sumTo (length (now (part .entry))) (λ i. nth (now (part .entry)) i * nth (now (other .entry)) i) ⌝ }
+{
+    let mut both: u64 = 0;
+    let mut i = 0;
+    while i < part.len() {
+        both += (part[i] as u64) * (other[i] as u64);
+        i += 1;
+    }
+    both
+}
+
+// On how many choices the meters u and v both have their bit set.
+pub fn shared(bits: &[u8], u: u8, v: u8, n: usize) -> u64
+    requires { ⌜ (1 ≤ u) × (1 ≤ v) × (u * n ≤ length (now bits)) × (v * n ≤ length (now bits)) × (n ≤ 16) × Bits (now bits) ⌝ }
+    ensures { λ r. ⌜ r ≡ sumTo n (λ i. bitAt n (now (bits .entry)) u i * bitAt n (now (bits .entry)) v i) ⌝ }
+{
+    let a = ((u as usize) - 1) * n;
+    let b = ((v as usize) - 1) * n;
+    overlap(&bits[a..a + n], &bits[b..b + n])
+}
+
+// (1 - k)².
+fn miss_squared(k: usize) -> u64
+    requires { ⌜ k ≤ 16 ⌝ }
+    ensures { λ r. ⌜ (r ≡ missSquared k) × (r ≤ 225) ⌝ }
+{
+    if k == 0 {
+        return 1;
+    }
+    let j = (k - 1) as u64;
+    j * j
+}
+
+// The sum over meters of (1 - bits set at it)².
+pub fn misses_of(bits: &[u8], meters: usize, n: usize) -> u64
+    requires { ⌜ (meters ≤ 48) × (n ≤ 16) × Assignment (meters * n) (now bits) ⌝ }
+    ensures { λ r. ⌜ (r ≡ misses meters n (bitAt n (now (bits .entry)))) × (r ≤ 10800) ⌝ }
+{
+    let mut sum: u64 = 0;
+    let mut v: usize = 0;
+    while v < meters {
+        let start = v * n;
+        let end = start + n;
+        let k = set_count(&bits[start..end]);
+        sum += miss_squared(k);
+        v += 1;
+    }
+    sum
+}
+
+// Whether the bytes give each of so many meters one of the choices 1..n.
+pub fn are_choices(plan: &[u8], meters: usize, n: usize) -> bool
+    ensures { λ r. ⌜ r ≡ areChoices meters n (now (plan .entry)) ⌝ }
+{
+    if plan.len() != meters {
+        return false;
+    }
+    let mut v: usize = 0;
+    while v < meters {
+        let c = plan[v] as usize;
+        if c == 0 {
+            return false;
+        }
+        if n < c {
+            return false;
+        }
+        v += 1;
+    }
+    true
+}
+
+// Makes all bits 0.
+fn clear_bits(bits: &mut [u8])
+    ensures { λ _. ⌜ (length (now (bits .exit)) ≡ length (now (bits .entry))) × ((k : ℕ) → getD (now (bits .exit)) k 0 ≡ 0) ⌝ }
+{
+    let mut k = 0;
+    while k < bits.len() {
+        bits[k] = 0;
+        k += 1;
+    }
+}
+
+// The code of a plan.
+pub fn encode(plan: &[u8], meters: usize, n: usize, bits: &mut [u8])
+    requires { ⌜ (areChoices meters n (now plan) ≡ true) × (length (now bits) ≡ meters * n) ⌝ }
+    ensures { λ _. ⌜ now (bits .exit) ≡ code n (now (plan .entry)) ⌝ }
+{
+    clear_bits(bits);
+    let mut v: usize = 0;
+    while v < meters {
+        let c = plan[v] as usize;
+        bits[v * n + (c - 1)] = 1;
+        v += 1;
+    }
+}
+
+// Adds A times the sum over meters of (1 - bits set at it)² to row i: only the meter whose bit i is has a term there.
+pub fn add_one_hots(row: &mut [i64], i: usize, meters: usize, n: usize, penalty: u64)
+    requires { ⌜ (1 ≤ n) × (i < meters * n) × (meters * n ≤ i + length (now row)) × (meters * n ≤ 2 ^ 32) × Room (2 ^ 61) (oneHots penalty meters n) (now row) ⌝ }
+    ensures { λ _. ⌜ now (row .exit) ≡ addTerms (oneHots penalty meters n) i (now (row .entry)) ⌝ }
+{
+    let first = i - i % n;
+    let run = qubo::Run {
+        start: first,
+        step: 1,
+        count: n,
+    };
+    qubo::add_one_hot(row, i, run, penalty as i64);
+}
