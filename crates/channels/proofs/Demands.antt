@@ -1,15 +1,12 @@
 -- Demands 2 and 3 for channels, in the order of the mission's text: of every survey and every n within the limits, with 01's A. Assumes nothing.
-use Prim.Native.Nat.{ℕ, _+_, _^_, _≤_, _<_}
+use Prim.Native.Nat.{ℕ, _+_, _^_, _<_}
 use mathlib.Core.Path.{_≡_, ap}
 use mathlib.Core.Logic.{_↔_}
 use mathlib.Core.Bool.{true}
 use mathlib.Core.List.{List}
-use lib.Dec.{leb}
 use lib.IntN.{pos}
 use lib.Signed.{_≤ℤ_}
 use native.Mathlib.Omega.{arith}
-use borrow.Author.Tests.{leb-true}
-use Rattle.lists.proofs.Tests.{and-left, and-right}
 use Rattle.links.specs.Links.{Link}
 use Rattle.links.specs.Survey.{Survey}
 use Rattle.qubo.specs.Formula.{Assignment}
@@ -21,17 +18,9 @@ use Rattle.channels.specs.Plans.{isPlan, codeOf, clashWeight}
 use Rattle.channels.specs.Repair.{decoded, repaired}
 use Rattle.channels.specs.Best.{energyOf, LeastEnergy, CodesLeast}
 use Rattle.channels.proofs.Load.{penalty-small}
+use Rattle.channels.proofs.Asking.{limit-low, limit-high}
 use Rattle.channels.proofs.Bound.{formula-norm}
 use Rattle.channels.proofs.AnyPenalty as any
-
--- n is within the limits
-pub limit-low : (n : ℕ) → withinLimits n ≡ true → 1 ≤ n
-unfolding withinLimits
-limit-low n w = leb-true 1 n (and-left (leb 1 n) _ w)
-
-pub limit-high : (n : ℕ) → withinLimits n ≡ true → n ≤ 16
-unfolding withinLimits
-limit-high n w = leb-true n 16 (and-right (leb 1 n) _ w)
 
 module _ (N n : ℕ) (ls : List Link) (s : Survey N ls) (w : withinLimits n ≡ true) where
   -- 01's A

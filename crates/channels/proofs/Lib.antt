@@ -3,6 +3,7 @@ pub mod Bound
 pub mod Load
 pub mod Step
 pub mod Repaired
+pub mod Asking
 pub mod AnyPenalty
 pub mod Demands
 pub mod Worked

@@ -37,12 +37,12 @@ refusal-none n true xs e = absurd (suc-ne-zero n e)
 refusal-none n false xs e = (refl, e)
 
 -- a call that is not refused leaves what it makes
-pub done : (r : ℕ) (t s : List ℕ) → r ≡ 0 → unlessRefused r t s ≡ t
+pub done : {A : Type 0} (r : ℕ) (t s : A) → r ≡ 0 → unlessRefused r t s ≡ t
 unfolding unlessRefused
 done r t s e = rw (eq-eqb r 0 e)
 
 -- a call that is refused leaves all as it was
-pub kept : (r : ℕ) (t s : List ℕ) → (r ≡ 0 → ⊥) → unlessRefused r t s ≡ s
+pub kept : {A : Type 0} (r : ℕ) (t s : A) → (r ≡ 0 → ⊥) → unlessRefused r t s ≡ s
 unfolding unlessRefused
 kept r t s e = rw (ne-eqb r 0 e)
 
