@@ -11,12 +11,11 @@ use Rattle.lists.specs.Sums.{nth, same}
 use Rattle.links.specs.Links.{Link}
 use Rattle.links.specs.Survey.{Survey}
 use Rattle.qubo.specs.Formula.{Assignment}
-use Rattle.qubo.specs.Table.{energy}
 use Rattle.qubo.proofs.Order.{≤ℤ-pos, pos-≤ℤ}
 use Rattle.qubo.proofs.Least.{least-assignment}
 use Rattle.onehot.specs.Choices.{bitAt}
 use Rattle.onehot.proofs.Codes.{choices-are, are-choices, bit-code, code-bits, one-each}
-use Rattle.channels.specs.Formula.{bitCount, load, penalty, formula}
+use Rattle.channels.specs.Formula.{bitCount, load, penalty}
 use Rattle.channels.specs.Plans.{isPlan, codeOf, clashWeight}
 use Rattle.channels.specs.Repair.{quietest, repairBy, decoded, repaired}
 use Rattle.channels.specs.Best.{energyOf, LeastEnergy, CodesLeast}

@@ -14,7 +14,7 @@ use Rattle.links.proofs.Arrays.{arrays-at}
 use Rattle.links.proofs.Halving.{ends-rise}
 use Rattle.qubo.specs.Formula.{Formula}
 use Rattle.qubo.specs.Norm.{formulaNorm}
-use Rattle.qubo.specs.Terms.{each, pair}
+use Rattle.qubo.specs.Terms.{pair}
 use Rattle.qubo.specs.Table.{rowOf}
 use Rattle.qubo.specs.Rows.{zeros, addTerms, Room}
 use Rattle.qubo.proofs.Families.{norm-part}

@@ -1,7 +1,6 @@
 -- The sums of link weights at the meters: gathered link by link, and none is great. Assumes nothing.
 use Prim.Native.Nat.{ℕ, zero, suc, _+_, _≤_, _<_, max}
 use mathlib.Core.Path.{_≡_, refl, sym, ap, _∙_}
-use mathlib.Core.Bool.{cond}
 use mathlib.Core.List.{List}
 use lib.ListN.{length, getD, set, replicate, length-set}
 use lib.Seq.{getD-set-same, getD-set-other}
@@ -19,10 +18,10 @@ use Rattle.channels.proofs.Load.{loadOf, load-u, load-v, load-none, loa
 -- ---- a weight added
 
 -- w added at place i
-added-here : (s t : List ℕ) (i w : ℕ) → t ≡ set s i (getD s i 0 + w) → i < length s → (m : ℕ) → i ≡ m → getD t m 0 ≡ getD s m 0 + w
+pub added-here : (s t : List ℕ) (i w : ℕ) → t ≡ set s i (getD s i 0 + w) → i < length s → (m : ℕ) → i ≡ m → getD t m 0 ≡ getD s m 0 + w
 added-here s t i w e h m d = rw (← d, e) (getD-set-same s i _ 0 h)
 
-added-elsewhere : (s t : List ℕ) (i w : ℕ) → t ≡ set s i (getD s i 0 + w) → (m : ℕ) → (i ≡ m → ⊥) → getD t m 0 ≡ getD s m 0
+pub added-elsewhere : (s t : List ℕ) (i w : ℕ) → t ≡ set s i (getD s i 0 + w) → (m : ℕ) → (i ≡ m → ⊥) → getD t m 0 ≡ getD s m 0
 added-elsewhere s t i w e m n = rw e (getD-set-other s i m _ 0 (λ d. n (sym d)))
 
 -- its weight added at its first end, then at its second: that is what it adds to each meter

@@ -10,4 +10,5 @@ pub mod Worked
 pub mod Gathering
 pub mod Clashing
 pub mod ClashRows
+pub mod Hearing
 pub mod Repairing

@@ -1,71 +1,20 @@
--- Laws that the proofs of src/repair.rt cite: what a meter bears and hears, its channel, and the plan meter by meter. Assumes nothing.
+-- Laws that the proofs of src/repair.rt cite: a meter's channel, and the plan meter by meter. Assumes nothing.
 use Prim.Native.Nat.{ℕ, _+_, _-_, _*_, _≤_, _<_}
 use mathlib.Core.Path.{_≡_, refl, sym, ap, _∙_}
 use mathlib.Core.List.{List, [], _∷_, _++_}
-use lib.ListN.{length, getD, set, take, drop}
+use lib.ListN.{length, set, take, drop}
 use lib.Seq.{take-suc-set, take-all}
 use native.Mathlib.Omega.{arith}
 use native.Mathlib.Numerals.{add-one}
-use native.Mathlib.Nat.{mul-le-mul-right, mul-zero, zero-mul, one-mul, zero-add, add-zero}
-use Rattle.lists.specs.Sums.{sumTo, sumOf, leastAt, lowest, same, differ, nth}
-use Rattle.lists.proofs.Sums.{same-yes, same-no, differ-yes, differ-no, nth-index, times-bit}
-use Rattle.links.specs.Links.{Link, linkIn}
-use Rattle.qubo.specs.Formula.{Bits}
+use Rattle.lists.specs.Sums.{sumTo, lowest, differ, nth}
+use Rattle.lists.proofs.Sums.{differ-yes, differ-no}
+use Rattle.links.specs.Links.{Link}
 use Rattle.onehot.specs.Choices.{bitAt, setAt}
-use Rattle.onehot.proofs.Parts.{bit-index, part-count, part-lowest}
-use Rattle.channels.specs.Repair.{bears, heard, quietest, repairOne, repairBy, decoded, repaired}
-use Rattle.channels.proofs.Repaired.{bears-low, bears-high, bears-small, quietest-picks, repair-silent, repair-lowest, repair-one}
-
--- ---- what a meter bears
-
-module _ (n : ℕ) (x p : List ℕ) (m i : ℕ) where
-  -- a weight times it
-  pub bears-times : Bits x → (w r : ℕ) → r ≡ bears n x p m i → w * r ≤ w
-  bears-times s w r e = times-bit w r (rw e (bears-small n x p m i s))
-
-  -- as the code reads it
-  pub bears-yes : 1 ≤ m → m ≤ length p → getD p (m - 1) 0 ≡ i → 1 ≡ bears n x p m i
-  bears-yes a h e = sym (bears-low n x p m i h ∙ same-yes (nth p m) i (nth-index p m a ∙ e))
-
-  pub bears-no : 1 ≤ m → m ≤ length p → (getD p (m - 1) 0 ≡ i → ⊥) → 0 ≡ bears n x p m i
-  bears-no a h e = sym (bears-low n x p m i h ∙ same-no (nth p m) i (λ q. e (sym (nth-index p m a) ∙ q)))
-
-  pub bears-came : 1 ≤ m → length p < m → 1 ≤ i → getD x ((m - 1) * n + (i - 1)) 0 ≡ bears n x p m i
-  bears-came a h b = sym (bears-high n x p m i h ∙ bit-index n x m i a b)
-
--- ---- what a link adds to what meter m hears on channel i
-
-pub hears : (ℕ → ℕ → ℕ) → ℕ → ℕ → Link → ℕ
-hears b m i l = l .weight * (same (l .u) m * b (l .v) i + same (l .v) m * b (l .u) i)
-
--- a link from m up, one from m down, and one of other meters
-pub hears-low : (u v w m p q : ℕ) → u ≡ m → u < v → w * p ≡ w * (same u m * p + same v m * q)
-hears-low u v w m p q e h = rw (same-yes u m e, same-no v m (λ d. omega arith), one-mul, zero-mul, add-zero) refl
-
-pub hears-high : (u v w m p q : ℕ) → (u ≡ m → ⊥) → v ≡ m → w * q ≡ w * (same u m * p + same v m * q)
-hears-high u v w m p q e h = rw (same-no u m e, same-yes v m h, one-mul, zero-mul, zero-add) refl
-
-pub hears-none : (u v w m p q : ℕ) → (u ≡ m → ⊥) → (v ≡ m → ⊥) → 0 ≡ w * (same u m * p + same v m * q)
-hears-none u v w m p q e h = rw (same-no u m e, same-no v m h, zero-mul p, zero-mul q, mul-zero) refl
-
--- the link at k, and all of them
-pub hears-at : (us vs ws : List ℕ) (b : ℕ → ℕ → ℕ) (m i k : ℕ) → getD ws k 0 * (same (getD us k 0) m * b (getD vs k 0) i + same (getD vs k 0) m * b (getD us k 0) i) ≡ hears b m i (linkIn us vs ws k)
-unfolding hears linkIn
-hears-at us vs ws b m i k = refl
-
-pub heard-sum : (ls : List Link) (b : ℕ → ℕ → ℕ) (m i : ℕ) → sumOf ls (hears b m i) ≡ heard ls b m i
-unfolding heard hears
-heard-sum ls b m i = refl
-
--- the bits of a meter stand within those of N meters
-pub meter-within : (v N n l : ℕ) → v ≤ N → l ≡ N * n → v * n ≤ l
-meter-within v N n l h e = omega (arith, mul-le-mul-right n h)
+use Rattle.onehot.proofs.Parts.{part-count, part-lowest}
+use Rattle.channels.specs.Repair.{quietest, repairOne, repairBy, decoded, repaired}
+use Rattle.channels.proofs.Repaired.{quietest-picks, repair-silent, repair-lowest, repair-one}
 
 -- ---- a meter's channel
-
-pub quietest-is : (n : ℕ) (ls : List Link) (x p : List ℕ) (m i r : ℕ) → i ≡ n → r ≡ leastAt i (heard ls (bears n x p) m) → r ≡ quietest n ls x p m
-unfolding quietest
-quietest-is n ls x p m i r e h = rw e at h
 
 -- it is a byte
 pub channel-le : (n : ℕ) (ls : List Link) (x p : List ℕ) (m r : ℕ) → 1 ≤ n → r ≡ repairOne n x (quietest n ls x p m) m → r ≤ n

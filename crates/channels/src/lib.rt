@@ -1,6 +1,6 @@
 // Kind 1, channels: what document 01 asks of it, over the number of meters, the links as three arrays, and n.
 // Definitions are in specs/; that the lowest assignments are the codes of the best plans is proved in proofs/.
-ghost use Prim.Native.Nat.{ℕ, _+_, _-_, _*_, _≤_, _<_, _^_};
+ghost use Prim.Native.Nat.{_+_, _-_, _*_, _≤_, _<_, _^_};
 ghost use mathlib.Core.Bool.{true};
 ghost use mathlib.Core.Path.{_≡_};
 ghost use mathlib.Core.List.{List, _++_};
@@ -18,6 +18,7 @@ mod clashes;
 mod loads;
 mod repair;
 mod rows;
+mod silent;
 
 // The limits of n, and the bit count.
 pub struct Channels;

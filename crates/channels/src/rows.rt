@@ -1,7 +1,7 @@
 // Rows of the table: the terms that hold bit i are added to a row of zeros.
-ghost use Prim.Native.Nat.{ℕ, _+_, _*_, _≤_, _<_, _^_};
+ghost use Prim.Native.Nat.{_+_, _*_, _≤_, _<_, _^_};
 ghost use mathlib.Core.Path.{_≡_};
-ghost use lib.ListN.{length, getD};
+ghost use lib.ListN.{length};
 ghost use Rattle.links.specs.Links.{linksOf};
 ghost use Rattle.qubo.specs.Table.{rowOf};
 ghost use Rattle.qubo.specs.Rows.{addTerms, Room};

@@ -1,6 +1,6 @@
 -- A walk over three arrays side by side, link by link: the facts of each link, and sums over the links. Loops of the kinds cite these. Assumes nothing.
-use Prim.Native.Nat.{ℕ, zero, suc, _+_, _-_, _*_, _≤_, _<_}
-use mathlib.Core.Path.{_≡_, refl, sym, ap, ap₂, _∙_}
+use Prim.Native.Nat.{ℕ, suc, _+_, _-_, _*_, _≤_, _<_}
+use mathlib.Core.Path.{_≡_, refl, ap, ap₂, _∙_}
 use mathlib.Core.Bool.{true}
 use mathlib.Core.List.{List, [], _∷_}
 use lib.ListN.{length, getD}
@@ -11,7 +11,7 @@ use Rattle.lists.specs.Tests.{all}
 use Rattle.lists.specs.Sums.{sumOf}
 use Rattle.lists.proofs.Tests.{all-head, all-tail}
 use Rattle.links.specs.Links.{Link, linkOk, linkIn, linksFrom, linksOf}
-use Rattle.links.specs.Survey.{LinkOf, Survey, Arrays}
+use Rattle.links.specs.Survey.{LinkOf, Arrays}
 use Rattle.links.proofs.Altered.{link-of}
 use Rattle.links.proofs.Arrays.{arrays-at, length-linksOf}
 

@@ -1,7 +1,6 @@
 -- Laws of sums, of what is picked from 1..n, and of entries of lists. Assumes nothing.
 use Prim.Native.Nat.{ℕ, zero, suc, _+_, _-_, _*_, _≤_, _<_, max}
 use mathlib.Core.Path.{_≡_, refl, sym, ap, ap₂, _∙_}
-use mathlib.Core.Bool.{cond}
 use mathlib.Core.Logic.{_⊎_, inl, inr, ⊎-elim}
 use mathlib.Core.List.{List, [], _∷_, _++_}
 use lib.ListN.{length, getD, List·getD-append}
@@ -284,6 +283,12 @@ leastAt-ok (suc k) f =
       | yes r ↦ rw (le-ltb (f (suc k)) (f (leastAt k f)) r) (omega (arith, leastAt-ok k f))
       | no r ↦ rw (lt-ltb (f (suc k)) (f (leastAt k f)) (omega arith)) (omega arith)
     ]
+
+pub leastAt-eq : (n : ℕ) (f g : ℕ → ℕ) → ((i : ℕ) → 1 ≤ i → i ≤ max 1 n → f i ≡ g i) → leastAt n f ≡ leastAt n g
+unfolding leastAt
+leastAt-eq zero f g h = refl
+leastAt-eq (suc k) f g h =
+    rw (leastAt-eq k f g (λ i a b. h i a (omega arith)), h (suc k) (omega arith) (omega arith), h (leastAt k g) (leastAt-ok k g .0) (omega (arith, leastAt-ok k g .1))) refl
 
 pub leastAt-one : (f : ℕ → ℕ) → leastAt 1 f ≡ 1
 unfolding leastAt

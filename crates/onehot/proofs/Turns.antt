@@ -40,10 +40,10 @@ module _ (n m : ℕ) (x : List ℕ) (low : 1 ≤ m) (fits : m * n ≤ length x) 
   cut-is : partOf n (m - 1) x ≡ take n (drop ((m - 1) * n) x)
   cut-is = let e : (m - 1) * n + n - (m - 1) * n ≡ n = omega arith in rw e refl
 
-  cut-length : length (partOf n (m - 1) x) ≡ n
+  pub cut-length : length (partOf n (m - 1) x) ≡ n
   cut-length = part-length n m m x (partOf n (m - 1) x) cut-is low (le-refl m) fits
 
-  cut-at : (i : ℕ) → 1 ≤ i → i ≤ n → nth (partOf n (m - 1) x) i ≡ bitAt n x m i
+  pub cut-at : (i : ℕ) → 1 ≤ i → i ≤ n → nth (partOf n (m - 1) x) i ≡ bitAt n x m i
   cut-at = part-at n m m x (partOf n (m - 1) x) cut-is low (le-refl m) fits
 
 module _ (n u v : ℕ) (x : List ℕ) (u1 : 1 ≤ u) (v1 : 1 ≤ v) (fits-u : u * n ≤ length x) (fits-v : v * n ≤ length x) where

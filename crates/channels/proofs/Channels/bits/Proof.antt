@@ -1,7 +1,6 @@
 use mathlib.Core.Path.{refl}
 use native.Mathlib.Omega.{arith}
 use native.Mathlib.Nat.{mul-le-mul}
-use Rattle.channels.specs.Formula.{bitCount}
 use Rattle.channels.proofs.Channels.bits.Statement.{statement}
 use Rattle.channels.proofs.Channels.bits.Tie as tie
 

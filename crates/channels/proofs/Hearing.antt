@@ -1,0 +1,221 @@
+-- Laws that the proofs of src/silent.rt cite: what each meter bears and what a meter hears of it, gathered link by link, and the channel on which it hears least. Assumes nothing.
+use Prim.Native.Nat.{ℕ, zero, suc, _+_, _-_, _*_, _≤_, _<_}
+use mathlib.Core.Path.{_≡_, refl, sym, _∙_}
+use mathlib.Core.List.{List}
+use lib.ListN.{length, getD, set, length-set, List·getD-eq-default}
+use native.Mathlib.Omega.{arith}
+use native.Mathlib.Decide.{ℕ-discrete, decLe}
+use native.Mathlib.Numerals.{add-one}
+use native.Mathlib.Nat.{mul-le-mul-right, mul-one, mul-zero, zero-mul, one-mul, zero-add, add-zero}
+use Rattle.lists.specs.Sums.{leastAt, same, nth}
+use Rattle.lists.proofs.Sums.{same-yes, same-no, same-le, nth-index, nth-suc, times-bit, leastAt-eq, leastAt-one, leastAt-new, leastAt-old}
+use Rattle.links.specs.Links.{Link, linkIn, linksOf}
+use Rattle.links.proofs.Walk.{link-at, arrays-few, Summed, summed-start, summed-turn, summed-skip, summed-end}
+use Rattle.qubo.specs.Formula.{Bits, Assignment}
+use Rattle.onehot.proofs.Parts.{partOf, cut-small}
+use Rattle.onehot.proofs.Turns.{cut-length, cut-at}
+use Rattle.channels.specs.Repair.{bears, heard, quietest}
+use Rattle.channels.specs.Lent.{Lent}
+use Rattle.channels.proofs.Gathering.{added-here, added-elsewhere}
+use Rattle.channels.proofs.Repaired.{bears-low, bears-high}
+
+-- ---- entries of a part, counted from 1
+
+module _ (part : List ℕ) where
+  nth-zero : nth part 0 ≡ 0
+  unfolding nth
+  nth-zero = refl
+
+  nth-past : (j : ℕ) → length part < j → nth part j ≡ 0
+  nth-past zero h = absurd (omega arith)
+  nth-past (suc k) h = nth-suc part k ∙ List·getD-eq-default part 0 (omega arith)
+
+  nth-bit : Bits part → (j : ℕ) → nth part j ≤ 1
+  nth-bit b zero = omega (arith, nth-zero)
+  nth-bit b (suc k) = rw (nth-suc part k) (b k)
+
+-- ---- add_part: w added for each choice of a part that is set
+
+-- the choices up to i are done, those above are not
+pub record PartAdded (part : List ℕ) (w : ℕ) (s : List ℕ) (i : ℕ) (t : List ℕ) : Type 0 where
+  pub size : length t ≡ length s
+  pub done : (j : ℕ) → j ≤ i → getD t j 0 ≡ getD s j 0 + w * nth part j
+  pub rest : (j : ℕ) → i < j → getD t j 0 ≡ getD s j 0
+
+module _ (part : List ℕ) (w : ℕ) (s : List ℕ) where
+  pub part-start : PartAdded part w s 0 s
+  part-start = record { size = refl; done = none; rest = λ j h. refl }
+    where
+      none : (j : ℕ) → j ≤ 0 → getD s j 0 ≡ getD s j 0 + w * nth part j
+      none zero h = rw (nth-zero part, mul-zero w, add-zero) refl
+      none (suc k) h = absurd (omega arith)
+
+  module _ (i : ℕ) (t : List ℕ) (a : PartAdded part w s i t) where
+    -- w times the bit of choice i + 1 is added in its place
+    pub part-turn : (q : List ℕ) → i + 1 < length s → q ≡ set t (i + 1) (getD t (i + 1) 0 + w * getD part i 0) → PartAdded part w s (i + 1) q
+    part-turn q h e =
+        record {
+          size = rw (e, length-set) (a .size);
+          done = λ j l. elim (ℕ-discrete (i + 1) j) [
+            | yes d ↦ omega (arith, added-here t q (i + 1) (w * getD part i 0) e (omega (arith, a .size)) j d, a .rest j (omega arith), own j d)
+            | no d ↦ added-elsewhere t q (i + 1) (w * getD part i 0) e j d ∙ a .done j (omega arith)
+          ];
+          rest = λ j l. added-elsewhere t q (i + 1) (w * getD part i 0) e j (omega arith) ∙ a .rest j (omega arith);
+        }
+      where
+        own : (j : ℕ) → i + 1 ≡ j → w * nth part j ≡ w * getD part i 0
+        own j d = rw (← d, add-one i, nth-suc part i) refl
+
+    module _ (past : length part ≤ i) where
+      -- past the part's end nothing is added
+      pub part-done : (j : ℕ) → getD t j 0 ≡ getD s j 0 + w * nth part j
+      part-done j = elim (decLe j i) [ yes h ↦ a .done j h | no h ↦ rw (nth-past part j (omega arith), mul-zero w, add-zero) (a .rest j (omega arith)) ]
+
+      pub part-bound : Bits part → (j : ℕ) → getD t j 0 ≤ getD s j 0 + w
+      part-bound b j = omega (arith, part-done j, times-bit w (nth part j) (nth-bit part b j))
+
+-- ---- add_borne: w added for each channel that meter m bears
+
+-- at the channels 1..n, and no place gains more than w
+abbrev pub BorneAdded : ℕ → List ℕ → List ℕ → ℕ → ℕ → List ℕ → List ℕ → Type 0
+BorneAdded n x p m w s t = (length t ≡ 256) × ((i : ℕ) → 1 ≤ i → i ≤ n → getD t i 0 ≡ getD s i 0 + w * bears n x p m i) × ((i : ℕ) → getD t i 0 ≤ getD s i 0 + w)
+
+-- w added at place c
+added-same : (s t : List ℕ) (c w : ℕ) → t ≡ set s c (getD s c 0 + w) → c < length s → (i : ℕ) → getD t i 0 ≡ getD s i 0 + w * same c i
+added-same s t c w e h i =
+    elim (ℕ-discrete c i) [
+      | yes d ↦ rw (same-yes c i d, mul-one w) (added-here s t c w e h i d)
+      | no d ↦ rw (same-no c i d, mul-zero w, add-zero) (added-elsewhere s t c w e i d)
+    ]
+
+module _ (n : ℕ) (x : List ℕ) (m : ℕ) (m1 : 1 ≤ m) (fits : m * n ≤ length x) where
+  -- the part of meter m, handed to add_part
+  pub borne-part : n ≤ 16 → Bits x → (l : ℕ) → l ≡ 256 → (length (partOf n (m - 1) x) < l) × Bits (partOf n (m - 1) x)
+  borne-part h b l e = (omega (arith, cut-length n m x m1 fits), cut-small n m (m - 1) x (omega arith) fits b)
+
+module _ (n : ℕ) (x p : List ℕ) (m w : ℕ) (s t : List ℕ) (size : length s ≡ 256) (m1 : 1 ≤ m) where
+  -- a meter whose channel is in the plan
+  pub borne-low : m ≤ length p → getD p (m - 1) 0 < 256 → t ≡ set s (getD p (m - 1) 0) (getD s (getD p (m - 1) 0) 0 + w) → BorneAdded n x p m w s t
+  borne-low h l e = (
+    rw (e, length-set) size,
+    λ i a b. rw (bears-low n x p m i h, nth-index p m m1) (at i),
+    λ i. omega (arith, at i, times-bit w (same (getD p (m - 1) 0) i) (same-le (getD p (m - 1) 0) i)),
+  )
+    where
+      at : (i : ℕ) → getD t i 0 ≡ getD s i 0 + w * same (getD p (m - 1) 0) i
+      at = added-same s t (getD p (m - 1) 0) w e (omega arith)
+
+  -- a later one, by its part of the bits
+  pub borne-high : length p < m → m * n ≤ length x → length t ≡ length s → ((i : ℕ) → 1 ≤ i → i ≤ length (partOf n (m - 1) x) → getD t i 0 ≡ getD s i 0 + w * nth (partOf n (m - 1) x) i) → ((i : ℕ) → getD t i 0 ≤ getD s i 0 + w) → BorneAdded n x p m w s t
+  borne-high h fits e at most = (
+    omega arith,
+    λ i a b. rw (bears-high n x p m i h, ← cut-at n m x m1 fits i a b) (at i a (omega (arith, cut-length n m x m1 fits))),
+    most,
+  )
+
+-- ---- gather_heard: what meter m hears on each channel of the first k links
+
+-- what a link adds on channel i, where b says what a meter bears
+pub hears : (ℕ → ℕ → ℕ) → ℕ → ℕ → Link → ℕ
+hears b m i l = l .weight * (same (l .u) m * b (l .v) i + same (l .v) m * b (l .u) i)
+
+-- of a link from m up, of one from m down, and of one of other meters
+module _ (b : ℕ → ℕ → ℕ) (m i : ℕ) (l : Link) where
+  hears-up : l .u < l .v → l .u ≡ m → l .weight * b (l .v) i ≡ hears b m i l
+  unfolding hears
+  hears-up o e = rw (same-yes (l .u) m e, same-no (l .v) m (λ d. omega arith), one-mul, zero-mul, add-zero) refl
+
+  hears-down : (l .u ≡ m → ⊥) → l .v ≡ m → l .weight * b (l .u) i ≡ hears b m i l
+  unfolding hears
+  hears-down e d = rw (same-no (l .u) m e, same-yes (l .v) m d, one-mul, zero-mul, zero-add) refl
+
+  hears-none : (l .u ≡ m → ⊥) → (l .v ≡ m → ⊥) → 0 ≡ hears b m i l
+  unfolding hears
+  hears-none e d = rw (same-no (l .u) m e, same-no (l .v) m d, zero-mul (b (l .v) i), zero-mul (b (l .u) i), mul-zero) refl
+
+-- in place i stands what m hears on channel i, and no place holds much
+pub record HeardSoFar (n : ℕ) (x p us vs ws : List ℕ) (m k : ℕ) (sums : List ℕ) : Type 0 where
+  pub size : length sums ≡ 256
+  pub small : (i : ℕ) → getD sums i 0 ≤ 65535 * k
+  pub so-far : (i : ℕ) → 1 ≤ i → i ≤ n → Summed us vs ws (hears (bears n x p) m i) k (getD sums i 0)
+
+module _ (n : ℕ) (x p us vs ws : List ℕ) (m : ℕ) where
+  pub heard-start : (s : List ℕ) → length s ≡ 256 → ((i : ℕ) → getD s i 0 ≡ 0) → HeardSoFar n x p us vs ws m 0 s
+  heard-start s e z = record {
+    size = e;
+    small = λ i. omega (arith, z i);
+    so-far = λ i a b. rw (z i) (summed-start us vs ws (hears (bears n x p) m i));
+  }
+
+  pub heard-end : (k : ℕ) (s : List ℕ) → HeardSoFar n x p us vs ws m k s → length us ≤ k → (i : ℕ) → 1 ≤ i → i ≤ n → getD s i 0 ≡ heard (linksOf us vs ws) (bears n x p) m i
+  unfolding heard hears
+  heard-end k s g h i a b = summed-end us vs ws (hears (bears n x p) m i) k (getD s i 0) (g .so-far i a b) h
+
+-- a turn: w added for each channel that the other end bears, where link k has an end m
+module _ (N n : ℕ) (x p us vs ws : List ℕ) (lent : Lent N n us vs ws) (bits : Assignment (N * n) x) (m k : ℕ) (h : k < length us) (s : List ℕ) (g : HeardSoFar n x p us vs ws m k s) where
+  -- what add_borne asks of the other end
+  pub heard-room : (e : ℕ) → 1 ≤ e → e ≤ N → (length s ≡ 256) × (n ≤ 16) × (1 ≤ e) × (e * n ≤ length x) × (getD ws k 0 ≤ 65535) × Bits x × ((i : ℕ) → getD s i 0 < 4294967296)
+  heard-room e a b = (
+    g .size,
+    lent .high,
+    a,
+    omega (arith, bits .size, mul-le-mul-right n b),
+    omega (arith, link-at N us vs ws (lent .arrays) k h),
+    bits .bits,
+    λ i. omega (arith, g .small i, arrays-few N us vs ws (lent .arrays)),
+  )
+
+  module _ (t : List ℕ) where
+    -- for an end whose channels are what m hears of the link
+    added : (e : ℕ) → BorneAdded n x p e (getD ws k 0) s t → ((i : ℕ) → getD ws k 0 * bears n x p e i ≡ hears (bears n x p) m i (linkIn us vs ws k)) → HeardSoFar n x p us vs ws m (k + 1) t
+    added e b d = record {
+      size = b .0;
+      small = λ i. omega (arith, b .2 i, g .small i, link-at N us vs ws (lent .arrays) k h);
+      so-far = λ i y z. rw (b .1 i y z) (summed-turn us vs ws (hears (bears n x p) m i) k (getD s i 0) (g .so-far i y z) (getD ws k 0 * bears n x p e i) h (d i));
+    }
+
+    -- a link from m up, one from m down, and one of other meters
+    pub heard-up : getD us k 0 ≡ m → BorneAdded n x p (getD vs k 0) (getD ws k 0) s t → HeardSoFar n x p us vs ws m (k + 1) t
+    unfolding linkIn
+    heard-up e b = added (getD vs k 0) b (λ i. hears-up (bears n x p) m i (linkIn us vs ws k) (link-at N us vs ws (lent .arrays) k h .1) e)
+
+    pub heard-down : (getD us k 0 ≡ m → ⊥) → getD vs k 0 ≡ m → BorneAdded n x p (getD us k 0) (getD ws k 0) s t → HeardSoFar n x p us vs ws m (k + 1) t
+    unfolding linkIn
+    heard-down e d b = added (getD us k 0) b (λ i. hears-down (bears n x p) m i (linkIn us vs ws k) e d)
+
+  pub heard-none : (getD us k 0 ≡ m → ⊥) → (getD vs k 0 ≡ m → ⊥) → HeardSoFar n x p us vs ws m (k + 1) s
+  unfolding linkIn
+  heard-none e d = record {
+    size = g .size;
+    small = λ i. omega (arith, g .small i);
+    so-far = λ i a b. summed-skip us vs ws (hears (bears n x p) m i) k (getD s i 0) (g .so-far i a b) h (hears-none (bears n x p) m i (linkIn us vs ws k) e d);
+  }
+
+-- ---- least_sum: the place of 1..i whose sum is least
+
+pub leastOf : List ℕ → ℕ → ℕ
+leastOf sums i = leastAt i (λ j. getD sums j 0)
+
+module _ (sums : List ℕ) where
+  pub least-start : 1 ≡ leastOf sums 1
+  unfolding leastOf
+  least-start = sym (leastAt-one (λ j. getD sums j 0))
+
+  module _ (best i : ℕ) (e : best ≡ leastOf sums i) where
+    pub least-new : getD sums (i + 1) 0 < getD sums best 0 → i + 1 ≡ leastOf sums (i + 1)
+    unfolding leastOf
+    least-new = leastAt-new (λ j. getD sums j 0) i best e
+
+    pub least-old : getD sums best 0 ≤ getD sums (i + 1) 0 → best ≡ leastOf sums (i + 1)
+    unfolding leastOf
+    least-old = leastAt-old (λ j. getD sums j 0) i best e
+
+    pub least-end : (n : ℕ) → i ≡ n → best ≡ leastAt n (λ j. getD sums j 0)
+    unfolding leastOf
+    least-end n d = rw (← d) e
+
+-- ---- quietest_at: the channel with the least of the sums
+
+pub quietest-is : (n : ℕ) (ls : List Link) (x p : List ℕ) (m : ℕ) (sum : ℕ → ℕ) (r : ℕ) → 1 ≤ n → ((i : ℕ) → 1 ≤ i → i ≤ n → sum i ≡ heard ls (bears n x p) m i) → r ≡ leastAt n sum → r ≡ quietest n ls x p m
+unfolding quietest
+quietest-is n ls x p m sum r h e d = d ∙ leastAt-eq n sum (heard ls (bears n x p) m) (λ i a b. e i a (omega arith))

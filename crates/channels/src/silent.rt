@@ -1,0 +1,102 @@
+// A meter with no bit set: the channel on which it hears least of its neighbours.
+ghost use Prim.Native.Nat.{ℕ, _+_, _*_, _≤_, _<_};
+ghost use mathlib.Core.Path.{_≡_};
+ghost use lib.ListN.{length, getD};
+ghost use Rattle.lists.specs.Sums.{leastAt, nth};
+ghost use Rattle.links.specs.Links.{linksOf};
+ghost use Rattle.qubo.specs.Formula.{Bits, Assignment};
+ghost use Rattle.channels.specs.Repair.{bears, heard, quietest};
+ghost use Rattle.channels.specs.Lent.{Lent};
+
+// Adds w to the sum of each choice that is set in a part, which stand in the places 1, 2, ..
+fn add_part(sums: &mut [u64], part: &[u8], w: u64)
+    requires { ⌜ (length (now part) < length (now sums)) × (w ≤ 65535) × Bits (now part) × ((i : ℕ) → 1 ≤ i → i ≤ length (now part) → getD (now sums) i 0 < 4294967296) ⌝ }
+    ensures { λ _. ⌜ (length (now (sums .exit)) ≡ length (now (sums .entry))) × ((i : ℕ) → 1 ≤ i → i ≤ length (now (part .entry)) → getD (now (sums .exit)) i 0 ≡ getD (now (sums .entry)) i 0 + w * nth (now (part .entry)) i) × ((i : ℕ) → getD (now (sums .exit)) i 0 ≤ getD (now (sums .entry)) i 0 + w) ⌝ }
+{
+    let mut i: usize = 0;
+    while i < part.len() {
+        let next = i + 1;
+        sums[next] = sums[next] + w * (part[i] as u64);
+        i = next;
+    }
+}
+
+// Adds w to the sum of each channel that meter m bears: its repaired channel where the plan has it already, else its bits as they came.
+fn add_borne(sums: &mut [u64], bits: &[u8], plan: &[u8], n: usize, m: usize, w: u64)
+    requires { ⌜ (length (now sums) ≡ 256) × (n ≤ 16) × (1 ≤ m) × (m * n ≤ length (now bits)) × (w ≤ 65535) × Bits (now bits) × ((i : ℕ) → getD (now sums) i 0 < 4294967296) ⌝ }
+    ensures { λ _. ⌜ (length (now (sums .exit)) ≡ 256) × ((i : ℕ) → 1 ≤ i → i ≤ n → getD (now (sums .exit)) i 0 ≡ getD (now (sums .entry)) i 0 + w * bears n (now (bits .entry)) (now (plan .entry)) m i) × ((i : ℕ) → getD (now (sums .exit)) i 0 ≤ getD (now (sums .entry)) i 0 + w) ⌝ }
+{
+    if m <= plan.len() {
+        let c = plan[m - 1] as usize;
+        sums[c] = sums[c] + w;
+        return;
+    }
+    let start = (m - 1) * n;
+    let end = start + n;
+    add_part(sums, &bits[start..end], w);
+}
+
+// For each channel, the total weight of the links of meter m to neighbours that bear it, in one walk; a channel's number is a byte.
+fn gather_heard(
+    sums: &mut [u64],
+    bits: &[u8],
+    plan: &[u8],
+    us: &[u8],
+    vs: &[u8],
+    ws: &[u16],
+    meters: usize,
+    n: usize,
+    m: usize,
+)
+    requires { ⌜ Lent meters n (now us) (now vs) (now ws) × Assignment (meters * n) (now bits) × (length (now sums) ≡ 256) × ((i : ℕ) → getD (now sums) i 0 ≡ 0) ⌝ }
+    ensures { λ _. ⌜ (length (now (sums .exit)) ≡ 256) × ((i : ℕ) → 1 ≤ i → i ≤ n → getD (now (sums .exit)) i 0 ≡ heard (linksOf (now (us .entry)) (now (vs .entry)) (now (ws .entry))) (bears n (now (bits .entry)) (now (plan .entry))) m i) ⌝ }
+{
+    let mut k: usize = 0;
+    while k < us.len() {
+        let u = us[k] as usize;
+        let v = vs[k] as usize;
+        let w = ws[k] as u64;
+        if u == m {
+            add_borne(sums, bits, plan, n, v, w);
+        } else if v == m {
+            add_borne(sums, bits, plan, n, u, w);
+        }
+        k += 1;
+    }
+}
+
+// The channel of 1..n with the least sum, ties to the lowest.
+fn least_sum(sums: &[u64], n: usize) -> usize
+    requires { ⌜ (1 ≤ n) × (n < length (now sums)) ⌝ }
+    ensures { λ r. ⌜ r ≡ leastAt n (λ i. getD (now (sums .entry)) i 0) ⌝ }
+{
+    let mut best: usize = 1;
+    let mut i: usize = 1;
+    while i < n {
+        let next = i + 1;
+        if sums[next] < sums[best] {
+            best = next;
+        }
+        i = next;
+    }
+    best
+}
+
+// The channel on which meter m hears least, ties to the lowest.
+pub fn quietest_at(
+    bits: &[u8],
+    plan: &[u8],
+    us: &[u8],
+    vs: &[u8],
+    ws: &[u16],
+    meters: usize,
+    n: usize,
+    m: usize,
+) -> usize
+    requires { ⌜ Lent meters n (now us) (now vs) (now ws) × Assignment (meters * n) (now bits) ⌝ }
+    ensures { λ r. ⌜ r ≡ quietest n (linksOf (now (us .entry)) (now (vs .entry)) (now (ws .entry))) (now (bits .entry)) (now (plan .entry)) m ⌝ }
+{
+    let mut sums: [u64; 256] = [0; 256];
+    gather_heard(&mut sums[..256], bits, plan, us, vs, ws, meters, n, m);
+    least_sum(&sums[..256], n)
+}
