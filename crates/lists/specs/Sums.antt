@@ -20,7 +20,7 @@ unfoldable pub greatest : ℕ → (ℕ → ℕ) → ℕ
 greatest zero f = 0
 greatest (suc k) f = max (greatest k f) (f (suc k))
 
--- the number of 1..n at which f is least, ties to the lowest number
+-- the number of 1..n at which f is least, ties to the lowest number; 1 where there are none
 unfoldable pub leastAt : ℕ → (ℕ → ℕ) → ℕ
 leastAt zero f = 1
 leastAt (suc k) f = cond (ltb (f (suc k)) (f (leastAt k f))) (suc k) (leastAt k f)
