@@ -71,7 +71,7 @@ code-energy A N n ls s p e =
 
 -- so an assignment that codes a plan of least clash weight has that weight for its energy
 pub coded-energy : (A N n : ℕ) (ls : List Link) → Survey N ls → (x : List ℕ) (c : CodesLeast N n ls x) → energyOf A N n ls x ≡ pos (clashWeight ls (c .plan))
-coded-energy A N n ls s x c = ap (energyOf A N n ls) (c .codes) ∙ code-energy A N n ls s (c .plan) (c .best .plan)
+coded-energy A N n ls s x c = ap (energyOf A N n ls) (c .codes) ∙ code-energy A N n ls s (c .plan) (c .best .ok)
 
 module _ (A N n : ℕ) (ls : List Link) (s : Survey N ls) (n1 : 1 ≤ n) (heavy : Heavy A N ls) where
   -- "every assignment decodes to a plan no heavier than its energy", by 1 less for each meter repaired, whatever channel is picked for a meter with no bit set
@@ -109,7 +109,7 @@ module _ (A N n : ℕ) (ls : List Link) (s : Survey N ls) (n1 : 1 ≤ n) (heavy 
           let none : repaired N n x ≡ 0 = omega (arith, below x a, least plan ok) in
           record {
             plan = plan;
-            best = record { plan = ok; least = λ q e. omega (arith, below x a, least q e) };
+            best = record { ok = ok; least = λ q e. omega (arith, below x a, least q e) };
             codes = none-coded N n ls n1 x a none;
           }
 

@@ -9,8 +9,8 @@ use borrow.Author.Tests.{leb-true}
 use Rattle.lists.proofs.Tests.{and-left, and-right}
 use Rattle.links.specs.Links.{linksOf}
 use Rattle.links.specs.Survey.{Arrays}
+use Rattle.onehot.specs.Lent.{Lent}
 use Rattle.channels.specs.Formula.{withinLimits, penalty}
-use Rattle.channels.specs.Lent.{Lent}
 use Rattle.channels.proofs.Load.{penalty-small}
 
 -- "n from 1 to 16", as facts

@@ -1,14 +1,14 @@
 -- The sums of link weights at the meters: gathered link by link, and none is great. Assumes nothing.
-use Prim.Native.Nat.{ℕ, zero, suc, _+_, _≤_, _<_, max}
+use Prim.Native.Nat.{ℕ, _+_, _≤_, _<_, max}
 use mathlib.Core.Path.{_≡_, refl, sym, ap, _∙_}
 use mathlib.Core.List.{List}
-use lib.ListN.{length, getD, set, replicate, length-set}
-use lib.Seq.{getD-set-same, getD-set-other}
+use lib.ListN.{length, getD, set, length-set}
 use native.Mathlib.Omega.{arith}
 use native.Mathlib.Decide.{ℕ-discrete}
 use native.Mathlib.Numerals.{add-one}
 use Rattle.lists.specs.Sums.{greatest}
 use Rattle.lists.proofs.Sums.{greatest-eq, greatest-zero, greatest-next}
+use Rattle.lists.proofs.Stores.{added-here, added-elsewhere}
 use Rattle.links.specs.Links.{Link, linkIn, linksOf}
 use Rattle.links.specs.Survey.{Arrays}
 use Rattle.links.proofs.Walk.{link-at, Summed, summed-start, summed-turn, summed-end}
@@ -16,13 +16,6 @@ use Rattle.channels.specs.Formula.{load, penalty}
 use Rattle.channels.proofs.Load.{loadOf, load-u, load-v, load-none, load-sum, load-small}
 
 -- ---- a weight added
-
--- w added at place i
-pub added-here : (s t : List ℕ) (i w : ℕ) → t ≡ set s i (getD s i 0 + w) → i < length s → (m : ℕ) → i ≡ m → getD t m 0 ≡ getD s m 0 + w
-added-here s t i w e h m d = rw (← d, e) (getD-set-same s i _ 0 h)
-
-pub added-elsewhere : (s t : List ℕ) (i w : ℕ) → t ≡ set s i (getD s i 0 + w) → (m : ℕ) → (i ≡ m → ⊥) → getD t m 0 ≡ getD s m 0
-added-elsewhere s t i w e m n = rw e (getD-set-other s i m _ 0 (λ d. n (sym d)))
 
 -- its weight added at its first end, then at its second: that is what it adds to each meter
 both-added : (l : Link) (s t q : List ℕ) → l .u < l .v → l .v < length s → t ≡ set s (l .u) (getD s (l .u) 0 + l .weight) → q ≡ set t (l .v) (getD t (l .v) 0 + l .weight) → (m : ℕ) → getD q m 0 ≡ getD s m 0 + loadOf m l
@@ -100,11 +93,6 @@ unfolding topOf
 top-end sums top m N e d = rw (← d) e
 
 -- ---- penalty_of: from an array of zeros
-
-pub zero-entries : (n m : ℕ) → _≡_ {A = ℕ} (getD (replicate n 0) m 0) 0
-zero-entries zero m = refl
-zero-entries (suc n) zero = refl
-zero-entries (suc n) (suc m) = zero-entries n m
 
 pub penalty-is : (N : ℕ) (ls : List Link) (sum : ℕ → ℕ) (top : ℕ) → ((m : ℕ) → sum m ≡ load ls m) → top ≡ greatest N sum → 1 + top ≡ penalty N ls
 unfolding penalty

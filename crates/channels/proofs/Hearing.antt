@@ -1,92 +1,27 @@
 -- Laws that the proofs of src/silent.rt cite: what each meter bears and what a meter hears of it, gathered link by link, and the channel on which it hears least. Assumes nothing.
-use Prim.Native.Nat.{ℕ, zero, suc, _+_, _-_, _*_, _≤_, _<_}
+use Prim.Native.Nat.{ℕ, _+_, _-_, _*_, _≤_, _<_}
 use mathlib.Core.Path.{_≡_, refl, sym, _∙_}
 use mathlib.Core.List.{List}
-use lib.ListN.{length, getD, set, length-set, List·getD-eq-default}
+use lib.ListN.{length, getD, set, length-set}
 use native.Mathlib.Omega.{arith}
-use native.Mathlib.Decide.{ℕ-discrete, decLe}
-use native.Mathlib.Numerals.{add-one}
-use native.Mathlib.Nat.{mul-le-mul-right, mul-one, mul-zero, zero-mul, one-mul, zero-add, add-zero}
+use native.Mathlib.Nat.{mul-le-mul-right, mul-zero, zero-mul, one-mul, zero-add, add-zero}
 use Rattle.lists.specs.Sums.{leastAt, same, nth}
-use Rattle.lists.proofs.Sums.{same-yes, same-no, same-le, nth-index, nth-suc, times-bit, leastAt-eq, leastAt-one, leastAt-new, leastAt-old}
+use Rattle.lists.proofs.Sums.{same-yes, same-no, same-le, nth-index, times-bit, leastAt-eq, leastAt-one, leastAt-new, leastAt-old}
+use Rattle.lists.proofs.Stores.{added-same}
 use Rattle.links.specs.Links.{Link, linkIn, linksOf}
 use Rattle.links.proofs.Walk.{link-at, arrays-few, Summed, summed-start, summed-turn, summed-skip, summed-end}
 use Rattle.qubo.specs.Formula.{Bits, Assignment}
+use Rattle.onehot.specs.Lent.{Lent}
 use Rattle.onehot.proofs.Parts.{partOf, cut-small}
 use Rattle.onehot.proofs.Turns.{cut-length, cut-at}
 use Rattle.channels.specs.Repair.{bears, heard, quietest}
-use Rattle.channels.specs.Lent.{Lent}
-use Rattle.channels.proofs.Gathering.{added-here, added-elsewhere}
 use Rattle.channels.proofs.Repaired.{bears-low, bears-high}
-
--- ---- entries of a part, counted from 1
-
-module _ (part : List ℕ) where
-  nth-zero : nth part 0 ≡ 0
-  unfolding nth
-  nth-zero = refl
-
-  nth-past : (j : ℕ) → length part < j → nth part j ≡ 0
-  nth-past zero h = absurd (omega arith)
-  nth-past (suc k) h = nth-suc part k ∙ List·getD-eq-default part 0 (omega arith)
-
-  nth-bit : Bits part → (j : ℕ) → nth part j ≤ 1
-  nth-bit b zero = omega (arith, nth-zero)
-  nth-bit b (suc k) = rw (nth-suc part k) (b k)
-
--- ---- add_part: w added for each choice of a part that is set
-
--- the choices up to i are done, those above are not
-pub record PartAdded (part : List ℕ) (w : ℕ) (s : List ℕ) (i : ℕ) (t : List ℕ) : Type 0 where
-  pub size : length t ≡ length s
-  pub done : (j : ℕ) → j ≤ i → getD t j 0 ≡ getD s j 0 + w * nth part j
-  pub rest : (j : ℕ) → i < j → getD t j 0 ≡ getD s j 0
-
-module _ (part : List ℕ) (w : ℕ) (s : List ℕ) where
-  pub part-start : PartAdded part w s 0 s
-  part-start = record { size = refl; done = none; rest = λ j h. refl }
-    where
-      none : (j : ℕ) → j ≤ 0 → getD s j 0 ≡ getD s j 0 + w * nth part j
-      none zero h = rw (nth-zero part, mul-zero w, add-zero) refl
-      none (suc k) h = absurd (omega arith)
-
-  module _ (i : ℕ) (t : List ℕ) (a : PartAdded part w s i t) where
-    -- w times the bit of choice i + 1 is added in its place
-    pub part-turn : (q : List ℕ) → i + 1 < length s → q ≡ set t (i + 1) (getD t (i + 1) 0 + w * getD part i 0) → PartAdded part w s (i + 1) q
-    part-turn q h e =
-        record {
-          size = rw (e, length-set) (a .size);
-          done = λ j l. elim (ℕ-discrete (i + 1) j) [
-            | yes d ↦ omega (arith, added-here t q (i + 1) (w * getD part i 0) e (omega (arith, a .size)) j d, a .rest j (omega arith), own j d)
-            | no d ↦ added-elsewhere t q (i + 1) (w * getD part i 0) e j d ∙ a .done j (omega arith)
-          ];
-          rest = λ j l. added-elsewhere t q (i + 1) (w * getD part i 0) e j (omega arith) ∙ a .rest j (omega arith);
-        }
-      where
-        own : (j : ℕ) → i + 1 ≡ j → w * nth part j ≡ w * getD part i 0
-        own j d = rw (← d, add-one i, nth-suc part i) refl
-
-    module _ (past : length part ≤ i) where
-      -- past the part's end nothing is added
-      pub part-done : (j : ℕ) → getD t j 0 ≡ getD s j 0 + w * nth part j
-      part-done j = elim (decLe j i) [ yes h ↦ a .done j h | no h ↦ rw (nth-past part j (omega arith), mul-zero w, add-zero) (a .rest j (omega arith)) ]
-
-      pub part-bound : Bits part → (j : ℕ) → getD t j 0 ≤ getD s j 0 + w
-      part-bound b j = omega (arith, part-done j, times-bit w (nth part j) (nth-bit part b j))
 
 -- ---- add_borne: w added for each channel that meter m bears
 
 -- at the channels 1..n, and no place gains more than w
 abbrev pub BorneAdded : ℕ → List ℕ → List ℕ → ℕ → ℕ → List ℕ → List ℕ → Type 0
 BorneAdded n x p m w s t = (length t ≡ 256) × ((i : ℕ) → 1 ≤ i → i ≤ n → getD t i 0 ≡ getD s i 0 + w * bears n x p m i) × ((i : ℕ) → getD t i 0 ≤ getD s i 0 + w)
-
--- w added at place c
-added-same : (s t : List ℕ) (c w : ℕ) → t ≡ set s c (getD s c 0 + w) → c < length s → (i : ℕ) → getD t i 0 ≡ getD s i 0 + w * same c i
-added-same s t c w e h i =
-    elim (ℕ-discrete c i) [
-      | yes d ↦ rw (same-yes c i d, mul-one w) (added-here s t c w e h i d)
-      | no d ↦ rw (same-no c i d, mul-zero w, add-zero) (added-elsewhere s t c w e i d)
-    ]
 
 module _ (n : ℕ) (x : List ℕ) (m : ℕ) (m1 : 1 ≤ m) (fits : m * n ≤ length x) where
   -- the part of meter m, handed to add_part

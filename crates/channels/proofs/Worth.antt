@@ -8,10 +8,10 @@ use lib.IntN.{pos, _+ℤ_, +ℤ-idr, *ℤ-zero}
 use Rattle.lists.specs.Sums.{sumTo}
 use Rattle.links.specs.Links.{Link}
 use Rattle.qubo.specs.Formula.{Term, termValue, value}
-use Rattle.qubo.specs.Table.{termConstant, constantOf}
+use Rattle.qubo.specs.Table.{constantOf}
 use Rattle.qubo.specs.Terms.{pair}
-use Rattle.qubo.proofs.Families.{sumOver, sumEach-eq, sumEach-none, sumEach-pos, sumOver-each, sumOver-over, sumOver-pos, constant-sum, constant-append}
-use Rattle.qubo.proofs.Values.{value-sum, value-append, pair-value}
+use Rattle.qubo.proofs.Families.{sumOver, sumOver-over, sumOver-pos, constant-append, each-constant}
+use Rattle.qubo.proofs.Values.{value-sum, value-append, each-value, pair-value}
 use Rattle.onehot.specs.Choices.{bitNumber, bitAt, oneHots, misses}
 use Rattle.onehot.proofs.Penalty.{one-hots-value, one-hots-constant}
 use Rattle.channels.specs.Formula.{linkClashes, clashTerms, clashingOf, formula}
@@ -31,10 +31,7 @@ unfolding bitAt
 clash-value n x l i = pair-value (pos (l .weight)) (bitNumber n (l .u) i) (bitNumber n (l .v) i) x
 
 link-value : (n : ℕ) (x : List ℕ) (l : Link) → sumOver (linkClashes n l) (λ t. termValue t x) ≡ pos (sumTo n (clashAt n x l))
-link-value n x l =
-    sumOver-each n (clashTerm n l) (λ t. termValue t x)
-    ∙ sumEach-eq n (λ i. termValue (clashTerm n l i) x) (λ i. pos (clashAt n x l i)) (λ i p q. clash-value n x l i)
-    ∙ sumEach-pos n (clashAt n x l)
+link-value n x l = each-value n (clashTerm n l) (clashAt n x l) x (clash-value n x l)
 
 clashes-value : (n : ℕ) (ls : List Link) (x : List ℕ) → value (clashTerms n ls) x ≡ pos (clashingOf n ls (bitAt n x))
 unfolding clashTerms clashingOf
@@ -51,10 +48,7 @@ formula-value A N n ls x = value-append (oneHots A N n) (clashTerms n ls) x ∙ 
 -- ---- the constant
 
 link-constant : (n : ℕ) (l : Link) → constantOf (linkClashes n l) ≡ pos 0
-link-constant n l =
-    constant-sum (linkClashes n l)
-    ∙ sumOver-each n (clashTerm n l) termConstant
-    ∙ sumEach-none n (λ i. termConstant (clashTerm n l i)) (λ i p q. *ℤ-zero (pos (l .weight)))
+link-constant n l = each-constant n (clashTerm n l) (λ i. *ℤ-zero (pos (l .weight)))
 
 clashes-constant : (n : ℕ) (ls : List Link) → constantOf (clashTerms n ls) ≡ pos 0
 unfolding clashTerms

@@ -2,4 +2,3 @@ pub mod Formula
 pub mod Plans
 pub mod Repair
 pub mod Best
-pub mod Lent

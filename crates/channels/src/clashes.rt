@@ -6,9 +6,9 @@ ghost use Rattle.links.specs.Links.{linksOf};
 ghost use Rattle.links.specs.Survey.{Arrays};
 ghost use Rattle.qubo.specs.Formula.{Assignment};
 ghost use Rattle.onehot.specs.Choices.{bitAt};
+ghost use Rattle.onehot.specs.Lent.{Lent};
 ghost use Rattle.channels.specs.Plans.{clashWeight};
 ghost use Rattle.channels.specs.Formula.{clashingOf};
-ghost use Rattle.channels.specs.Lent.{Lent};
 
 // For each link and channel, the weight if both ends have that channel.
 pub fn clashing(bits: &[u8], us: &[u8], vs: &[u8], ws: &[u16], meters: usize, n: usize) -> u64

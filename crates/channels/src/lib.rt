@@ -9,10 +9,10 @@ ghost use Rattle.links.specs.Links.{Link, linksOf};
 ghost use Rattle.links.specs.Survey.{Arrays};
 ghost use Rattle.qubo.specs.Formula.{Assignment, value};
 ghost use Rattle.qubo.specs.Table.{constantOf, rowOf};
+ghost use Rattle.onehot.specs.Lent.{Lent};
 ghost use Rattle.channels.specs.Formula.{withinLimits, bitCount, penalty, formula};
 ghost use Rattle.channels.specs.Plans.{isPlan, codeOf, clashWeight};
 ghost use Rattle.channels.specs.Repair.{decoded, repaired};
-ghost use Rattle.channels.specs.Lent.{Lent};
 
 mod clashes;
 mod loads;

@@ -5,8 +5,8 @@ ghost use mathlib.Core.Path.{_≡_};
 ghost use lib.ListN.{length, take, drop};
 ghost use Rattle.links.specs.Links.{linksOf};
 ghost use Rattle.qubo.specs.Formula.{Assignment};
+ghost use Rattle.onehot.specs.Lent.{Lent};
 ghost use Rattle.channels.specs.Repair.{quietest, repairOne, decoded, repaired};
-ghost use Rattle.channels.specs.Lent.{Lent};
 
 // The channel of meter m, whose part of the bits is given: kept, the lowest of several, or the one on which it hears least.
 fn repair_meter(

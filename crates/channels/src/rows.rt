@@ -5,8 +5,8 @@ ghost use lib.ListN.{length};
 ghost use Rattle.links.specs.Links.{linksOf};
 ghost use Rattle.qubo.specs.Table.{rowOf};
 ghost use Rattle.qubo.specs.Rows.{addTerms, Room};
+ghost use Rattle.onehot.specs.Lent.{Lent};
 ghost use Rattle.channels.specs.Formula.{clashTerms, formula};
-ghost use Rattle.channels.specs.Lent.{Lent};
 
 // Adds the clashes of the links to row i. In the row of a bit of meter m stand the pairs of the links from m to a higher meter, each at the same channel.
 fn add_clashes(row: &mut [i64], us: &[u8], vs: &[u8], ws: &[u16], meters: usize, n: usize, i: usize)

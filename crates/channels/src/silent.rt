@@ -2,24 +2,11 @@
 ghost use Prim.Native.Nat.{ℕ, _+_, _*_, _≤_, _<_};
 ghost use mathlib.Core.Path.{_≡_};
 ghost use lib.ListN.{length, getD};
-ghost use Rattle.lists.specs.Sums.{leastAt, nth};
+ghost use Rattle.lists.specs.Sums.{leastAt};
 ghost use Rattle.links.specs.Links.{linksOf};
 ghost use Rattle.qubo.specs.Formula.{Bits, Assignment};
+ghost use Rattle.onehot.specs.Lent.{Lent};
 ghost use Rattle.channels.specs.Repair.{bears, heard, quietest};
-ghost use Rattle.channels.specs.Lent.{Lent};
-
-// Adds w to the sum of each choice that is set in a part, which stand in the places 1, 2, ..
-fn add_part(sums: &mut [u64], part: &[u8], w: u64)
-    requires { ⌜ (length (now part) < length (now sums)) × (w ≤ 65535) × Bits (now part) × ((i : ℕ) → 1 ≤ i → i ≤ length (now part) → getD (now sums) i 0 < 4294967296) ⌝ }
-    ensures { λ _. ⌜ (length (now (sums .exit)) ≡ length (now (sums .entry))) × ((i : ℕ) → 1 ≤ i → i ≤ length (now (part .entry)) → getD (now (sums .exit)) i 0 ≡ getD (now (sums .entry)) i 0 + w * nth (now (part .entry)) i) × ((i : ℕ) → getD (now (sums .exit)) i 0 ≤ getD (now (sums .entry)) i 0 + w) ⌝ }
-{
-    let mut i: usize = 0;
-    while i < part.len() {
-        let next = i + 1;
-        sums[next] = sums[next] + w * (part[i] as u64);
-        i = next;
-    }
-}
 
 // Adds w to the sum of each channel that meter m bears: its repaired channel where the plan has it already, else its bits as they came.
 fn add_borne(sums: &mut [u64], bits: &[u8], plan: &[u8], n: usize, m: usize, w: u64)
@@ -33,7 +20,7 @@ fn add_borne(sums: &mut [u64], bits: &[u8], plan: &[u8], n: usize, m: usize, w: 
     }
     let start = (m - 1) * n;
     let end = start + n;
-    add_part(sums, &bits[start..end], w);
+    onehot::add_part(sums, &bits[start..end], w);
 }
 
 // For each channel, the total weight of the links of meter m to neighbours that bear it, in one walk; a channel's number is a byte.

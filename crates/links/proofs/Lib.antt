@@ -3,4 +3,5 @@ pub mod Altered
 pub mod Degree
 pub mod Arrays
 pub mod Walk
+pub mod Total
 pub mod Halving

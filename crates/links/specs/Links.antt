@@ -5,6 +5,7 @@ use mathlib.Core.List.{List, [], _∷_, map}
 use lib.ListN.{length, getD}
 use lib.Dec.{leb, ltb, eqb}
 use Rattle.lists.specs.Tests.{every, some, any}
+use Rattle.lists.specs.Sums.{sumOf}
 
 -- ---- one link
 
@@ -62,6 +63,10 @@ timesOf a b (l ∷ ls) = cond (hasEnds a b l) 1 0 + timesOf a b ls
 unfoldable pub degree : ℕ → List Link → ℕ
 degree m [] = 0
 degree m (l ∷ ls) = cond (isAt m l) 1 0 + degree m ls
+
+-- "the sum of all weights"
+unfoldable pub total : List Link → ℕ
+total ls = sumOf ls (λ l. l .weight)
 
 -- ---- lists altered
 

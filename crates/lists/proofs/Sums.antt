@@ -10,7 +10,7 @@ use native.Mathlib.Decide.{ℕ-discrete, decLe}
 use native.Mathlib.Numerals.{add-one}
 use native.Mathlib.Nat.{le-refl, le-trans, le-of-eq, mul-le-mul-left, mul-add, mul-one, mul-zero, add-le-add, add-zero}
 use borrow.Author.Tests.{eq-eqb, ne-eqb, le-ltb, lt-ltb}
-use Rattle.lists.specs.Sums.{sumTo, sumOf, greatest, leastAt, lowest, same, differ, nth}
+use Rattle.lists.specs.Sums.{sumTo, sumOf, greatest, leastAt, lowest, same, differ, gap, nth}
 
 -- ---- same
 
@@ -47,6 +47,16 @@ differ-no a b e = rw (eq-eqb a b e)
 
 pub differ-le : (a b : ℕ) → differ a b ≤ 1
 differ-le a b = elim (ℕ-discrete a b) [ yes e ↦ omega (arith, differ-no a b e) | no e ↦ omega (arith, differ-yes a b e) ]
+
+-- ---- gap
+
+pub gap-zero : (a b : ℕ) → gap a b ≡ 0 → a ≡ b
+unfolding gap
+gap-zero a b e = omega arith
+
+pub gap-same : (a b : ℕ) → a ≡ b → gap a b ≡ 0
+unfolding gap
+gap-same a b e = omega arith
 
 -- ---- sumTo
 
@@ -126,6 +136,14 @@ unfolding sumTo
 sumTo-times zero w f = sym (mul-zero w)
 sumTo-times (suc k) w f = ap (λ t. t + w * f (suc k)) (sumTo-times k w f) ∙ sym (mul-add w (sumTo k f) (f (suc k)))
 
+-- in two parts
+pub sumTo-split : (k n : ℕ) (f : ℕ → ℕ) → sumTo (k + n) f ≡ sumTo k f + sumTo n (λ i. f (k + i))
+unfolding sumTo
+sumTo-split k zero f = let e : k + 0 ≡ k = omega arith in ap (λ t. sumTo t f) e ∙ omega arith
+sumTo-split k (suc n) f =
+    let e : k + suc n ≡ suc (k + n) = omega arith in
+    ap (λ t. sumTo t f) e ∙ omega (arith, sumTo-split k n f, ap f e)
+
 -- one term is less by some
 pub sumTo-less : (n : ℕ) (f g : ℕ → ℕ) (m : ℕ) → 1 ≤ m → m ≤ n → ((i : ℕ) → 1 ≤ i → i ≤ n → f i ≤ g i) → sumTo n f + g m ≤ sumTo n g + f m
 unfolding sumTo
@@ -191,6 +209,12 @@ pub sumOf-add : {A : Type 0} (xs : List A) (f g : A → ℕ) → sumOf xs (λ x.
 unfolding sumOf
 sumOf-add [] f g = refl
 sumOf-add (x ∷ xs) f g = omega (arith, sumOf-add xs f g)
+
+-- a factor taken out
+pub sumOf-times : {A : Type 0} (xs : List A) (w : ℕ) (f : A → ℕ) → sumOf xs (λ x. w * f x) ≡ w * sumOf xs f
+unfolding sumOf
+sumOf-times [] w f = sym (mul-zero w)
+sumOf-times (x ∷ xs) w f = ap (λ t. w * f x + t) (sumOf-times xs w f) ∙ sym (mul-add w (f x) (sumOf xs f))
 
 -- each summand is at most b
 pub sumOf-bound : {A : Type 0} (xs : List A) (f : A → ℕ) (b : ℕ) → ((x : A) → f x ≤ b) → sumOf xs f ≤ length xs * b

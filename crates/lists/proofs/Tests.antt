@@ -1,12 +1,12 @@
 -- Laws of tests, alone and over lists. Assumes nothing.
 use Prim.Native.Nat.{ℕ, zero, suc}
 use mathlib.Core.Bool.{Bool, true, false, _&&_, _||_, true≢false, false≢true}
-use mathlib.Core.Path.{_≡_, refl, sym, ap}
+use mathlib.Core.Path.{_≡_, refl, sym, ap, ap₂, subst}
 use mathlib.Core.List.{List, [], _∷_, _++_}
 use lib.ListN.{length, getD}
 use lib.Dec.{eqb}
-use borrow.Author.Tests.{eqb-true, eqb-false}
-use Rattle.lists.specs.Tests.{every, all, from}
+use borrow.Author.Tests.{eqb-true, eqb-false, eq-eqb}
+use Rattle.lists.specs.Tests.{every, all, alike, from}
 
 -- ---- both, either
 
@@ -81,3 +81,20 @@ pub length-from : (a n : ℕ) → length (from a n) ≡ n
 unfolding from
 length-from a zero = refl
 length-from a (suc n) = ap suc (length-from (suc a) n)
+
+-- ---- lists with the same entries are equal
+
+pub alike-same : (xs ys : List ℕ) → alike xs ys ≡ true → xs ≡ ys
+unfolding alike
+alike-same [] [] e = refl
+alike-same [] (y ∷ ys) e = absurd (false≢true e)
+alike-same (x ∷ xs) [] e = absurd (false≢true e)
+alike-same (x ∷ xs) (y ∷ ys) e = ap₂ _∷_ (eqb-true x y (and-left (eqb x y) _ e)) (alike-same xs ys (and-right (eqb x y) _ e))
+
+alike-self : (xs : List ℕ) → alike xs xs ≡ true
+unfolding alike
+alike-self [] = refl
+alike-self (x ∷ xs) = and-both (eqb x x) _ (eq-eqb x x refl) (alike-self xs)
+
+pub same-alike : (xs ys : List ℕ) → xs ≡ ys → alike xs ys ≡ true
+same-alike xs ys e = subst (λ (zs : List ℕ). alike xs zs ≡ true) e (alike-self xs)

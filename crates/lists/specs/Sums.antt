@@ -1,5 +1,5 @@
 -- Sums of whole numbers from 0, over 1..n and over lists, and what is picked from 1..n. Assumes nothing.
-use Prim.Native.Nat.{ℕ, zero, suc, _+_, max}
+use Prim.Native.Nat.{ℕ, zero, suc, _+_, _-_, max}
 use mathlib.Core.Bool.{cond}
 use mathlib.Core.List.{List, [], _∷_}
 use lib.ListN.{getD}
@@ -37,6 +37,10 @@ same a b = cond (eqb a b) 1 0
 -- 1 where a and b are different, else 0
 unfoldable pub differ : ℕ → ℕ → ℕ
 differ a b = cond (eqb a b) 0 1
+
+-- the difference of a and b, whichever is greater: subtraction stops at 0, so one of the two differences is 0
+unfoldable pub gap : ℕ → ℕ → ℕ
+gap a b = (a - b) + (b - a)
 
 -- entry k of a list, counted from 1; 0 where there is none
 unfoldable pub nth : List ℕ → ℕ → ℕ

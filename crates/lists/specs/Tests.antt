@@ -2,6 +2,7 @@
 use mathlib.Core.Bool.{Bool, true, false, _&&_, _||_}
 use mathlib.Core.List.{List, [], _∷_}
 use Prim.Native.Nat.{ℕ, zero, suc}
+use lib.Dec.{eqb}
 
 -- every test of a list holds
 unfoldable pub every : List Bool → Bool
@@ -22,6 +23,13 @@ all p (x ∷ xs) = p x && all p xs
 unfoldable pub any : {A : Type 0} → (A → Bool) → List A → Bool
 any p [] = false
 any p (x ∷ xs) = p x || any p xs
+
+-- two lists have the same entries
+unfoldable pub alike : List ℕ → List ℕ → Bool
+alike [] [] = true
+alike [] (y ∷ ys) = false
+alike (x ∷ xs) [] = false
+alike (x ∷ xs) (y ∷ ys) = eqb x y && alike xs ys
 
 -- the numbers from a on, n of them
 unfoldable pub from : ℕ → ℕ → List ℕ

@@ -3,3 +3,8 @@ pub mod Penalty
 pub mod Parts
 pub mod Turns
 pub mod Rows
+pub mod Ends
+pub mod Adding
+pub mod Candidates
+pub mod LinkTerms
+pub mod LinkSums

@@ -84,6 +84,9 @@ module _ (n N v : ℕ) (x : List ℕ) (below : v < N) (fits : N * n ≤ length x
   pub cut-count : sumTo (length (partOf n v x)) (nth (partOf n v x)) ≡ setAt n (bitAt n x) (v + 1)
   cut-count = part-count n N (v + 1) x (partOf n v x) (part-is n v x) (omega arith) (omega arith) fits
 
+  pub cut-lowest : lowest (length (partOf n v x)) (nth (partOf n v x)) ≡ lowest n (bitAt n x (v + 1))
+  cut-lowest = part-lowest n N (v + 1) x (partOf n v x) (part-is n v x) (omega arith) (omega arith) fits
+
 -- at most n bits are set at a meter
 pub setAt-le : (n : ℕ) (x : List ℕ) (m : ℕ) → Bits x → setAt n (bitAt n x) m ≤ n
 unfolding setAt bitAt

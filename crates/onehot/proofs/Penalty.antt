@@ -1,8 +1,9 @@
 -- The one-hot penalty: its value, its constant and its norm. Assumes nothing.
-use Prim.Native.Nat.{ℕ, zero, suc, _+_, _-_, _*_, _≤_}
+use Prim.Native.Nat.{ℕ, zero, suc, _+_, _-_, _*_, _^_, _≤_}
 use mathlib.Core.Path.{_≡_, refl, sym, ap, _∙_}
 use mathlib.Core.List.{List}
 use native.Mathlib.Omega.{arith}
+use native.Mathlib.Nat.{le-trans, mul-le-mul}
 use lib.ListN.{getD}
 use lib.IntN.{pos, negsuc, subℕ, _-ℤ_, _*ℤ_}
 use borrow.Author.Tests.{lt-ltb}
@@ -60,3 +61,7 @@ one-hots-constant A N n =
 pub one-hots-norm : (A N n : ℕ) → formulaNorm (oneHots A N n) ≤ N * (A * ((1 + n) * (1 + n)))
 unfolding oneHots
 one-hots-norm A N n = norm-each (A * ((1 + n) * (1 + n))) N (λ v. oneHot (pos A) n (bitNumber n v)) (λ v p q. omega (arith, one-hot-norm (pos A) n (bitNumber n v)))
+
+-- at most 48 meters, 16 choices and A of 2³²
+pub one-hots-small : (A N n : ℕ) → N ≤ 48 → n ≤ 16 → A ≤ 2 ^ 32 → formulaNorm (oneHots A N n) ≤ 59579786330112
+one-hots-small A N n a b c = le-trans (one-hots-norm A N n) (mul-le-mul {n₂ = 48} {m₂ = 1241245548544} a (mul-le-mul {n₂ = 4294967296} {m₂ = 289} c (mul-le-mul {n₂ = 17} {m₂ = 17} (omega arith) (omega arith))))

@@ -3,20 +3,23 @@ use Prim.Native.Nat.{ℕ, zero, suc, pred, _+_, _-_, _*_, _/_, _%_, _^_, _≤_, 
 use mathlib.Core.Path.{_≡_, sym, ap, _∙_, fun-ext}
 use mathlib.Core.List.{List, [], _∷_}
 use native.Mathlib.Omega.{arith}
-use native.Mathlib.Nat.{mul-one, mul-le-mul-right, add-mul, div-add-mod', div-lt-iff-lt-mul, div-eq-of-lt-le}
+use native.Mathlib.Nat.{mul-one, mul-le-mul-right, add-mul, mod-lt, div-add-mod', div-lt-iff-lt-mul, div-eq-of-lt-le}
 use lib.IntN.{ℤ, pos}
 use lib.ListN.{length}
 use Rattle.qubo.specs.Formula.{Term}
 use Rattle.qubo.specs.Norm.{termNorm}
 use Rattle.qubo.specs.Terms.{oneHot}
-use Rattle.qubo.specs.Rows.{addTerms, runOneHot, RunBelow, Room}
+use Rattle.qubo.specs.Table.{rowOf}
+use Rattle.qubo.specs.Rows.{zeros, addTerms, runOneHot, RunBelow, Room}
 use Rattle.qubo.specs.declared.Run.{Run}
 use Rattle.qubo.proofs.Families.{norm-part}
-use Rattle.qubo.proofs.RowAction.{Absent, add-only}
+use Rattle.qubo.proofs.RowAction.{Absent, add-only, row-none, row-next, row-top, row-room}
 use Rattle.qubo.proofs.Runs.{run-lacks}
 use Rattle.qubo.proofs.RowShapes.{one-hot-absent}
 use Rattle.qubo.proofs.Turns.{one-hot-factor}
 use Rattle.onehot.specs.Choices.{bitNumber, oneHots}
+use Rattle.onehot.specs.Lent.{Lent}
+use Rattle.onehot.proofs.Penalty.{one-hots-small}
 use Rattle.onehot.proofs.Parts.{part-within}
 
 -- ---- bit i is that of meter i / n + 1 and choice i % n + 1
@@ -50,6 +53,20 @@ higher-bit n i zero h = absurd (omega arith)
 higher-bit n i (suc v) h =
     let g : v ≡ i / n + (suc v - (i / n + 1)) = omega arith in
     omega (arith, div-add-mod' i n, ap (λ (j : ℕ). j * n) g, add-mul (i / n) (suc v - (i / n + 1)) n)
+
+-- and is one of the table's
+pub higher-inside : (N n i v : ℕ) → 1 ≤ n → i / n + 1 ≤ v → v ≤ N → i + (v - (i / n + 1)) * n < N * n
+higher-inside N n i v n1 h top =
+    let g : v ≡ i / n + 1 + (v - (i / n + 1)) = omega arith in
+    omega (
+      arith,
+      div-add-mod' i n,
+      mod-lt i n1,
+      mul-le-mul-right n top,
+      ap (λ (j : ℕ). j * n) g,
+      add-mul (i / n + 1) (v - (i / n + 1)) n,
+      add-mul (i / n) 1 n,
+    )
 
 -- that meter is one of the N
 pub meter-inside : (N n i : ℕ) → 1 ≤ n → i < N * n → i / n < N
@@ -101,3 +118,16 @@ module _ (A N n i : ℕ) (r : List ℤ) (n1 : 1 ≤ n) (h : i < N * n) where
       let e : i - i % n ≡ i / n * n = omega (arith, div-add-mod' i n) in
       let f = part-within n (i / n) N (meter-inside N n i n1 h) in
       record { apart = omega arith; inside = λ t l. omega arith; end = omega arith }
+
+-- ---- the first part of a row: zeros, then the penalty
+
+module _ (A N n i : ℕ) (us vs ws : List ℕ) (lent : Lent N n us vs ws) (small : A ≤ 2 ^ 32) (L : ℕ) (top : i + L ≡ N * n) (r : List ℤ) (none : r ≡ zeros L) where
+  pub hots-ready : (N * n ≤ i + length r) × Room (2 ^ 61) (oneHots A N n) r
+  hots-ready =
+      let e = row-none (N * n) L i r top none in (
+        omega (arith, row-top (N * n) [] i r (omega arith) e),
+        row-room _ (N * n) [] (oneHots A N n) i r e (omega (arith, one-hots-small A N n (lent .arrays .survey .meters-high) (lent .high) small)),
+      )
+
+  pub row-hots : (s : List ℤ) → s ≡ addTerms (oneHots A N n) i r → s ≡ rowOf (oneHots A N n) (N * n) i
+  row-hots s hots = row-next (N * n) [] (oneHots A N n) i r s (row-none (N * n) L i r top none) hots

@@ -9,14 +9,14 @@ use native.Mathlib.Omega.{arith}
 use native.Mathlib.Decide.{ℕ-discrete, decLt}
 use native.Mathlib.Numerals.{add-one}
 use native.Mathlib.Nat.{le-refl, mul-le-mul, mul-zero, mod-lt, div-add-mod', div-lt-iff-lt-mul}
-use Rattle.lists.specs.Sums.{sumTo, same, nth}
-use Rattle.lists.proofs.Sums.{sumTo-next, sumTo-eq, same-yes, same-no, nth-index, nth-suc}
+use Rattle.lists.specs.Sums.{sumTo, same, differ, nth}
+use Rattle.lists.proofs.Sums.{sumTo-next, sumTo-eq, same-yes, same-no, differ-yes, differ-no, nth-index, nth-suc}
 use Rattle.qubo.specs.Formula.{Bits}
 use Rattle.onehot.specs.Choices.{bitAt, setAt, missSquared, misses, areChoices, code}
 use Rattle.onehot.proofs.Codes.{choices-are, are-choices, code-length, code-at}
 use Rattle.onehot.proofs.Parts.{one-less, part-within, partOf, part-length, part-at, cut-small}
 
--- ---- the bits set in two parts
+-- ---- two parts, choice by choice
 
 -- whether both of two parts have their bit for choice i set
 unfoldable pub bothSet : List ℕ → List ℕ → ℕ → ℕ
@@ -29,6 +29,25 @@ both-next part other i = rw (sumTo-next i (bothSet part other), nth-suc part i, 
 pub both-are : (part other : List ℕ) (i n s : ℕ) → i ≡ n → s ≡ sumTo i (bothSet part other) → s ≡ sumTo n (λ j. nth part j * nth other j)
 unfolding bothSet
 both-are part other i n s e h = rw (← e) h
+
+-- whether two parts differ at choice i
+unfoldable pub differAt : List ℕ → List ℕ → ℕ → ℕ
+differAt part other i = differ (nth part i) (nth other i)
+
+module _ (part other : List ℕ) (i : ℕ) where
+  apart-next : sumTo (i + 1) (differAt part other) ≡ sumTo i (differAt part other) + differ (getD part i 0) (getD other i 0)
+  unfolding differAt
+  apart-next = rw (sumTo-next i (differAt part other), nth-suc part i, nth-suc other i) refl
+
+  pub apart-more : (getD part i 0 ≡ getD other i 0 → ⊥) → sumTo (i + 1) (differAt part other) ≡ sumTo i (differAt part other) + 1
+  apart-more h = omega (arith, apart-next, differ-yes (getD part i 0) (getD other i 0) h)
+
+  pub apart-same : getD part i 0 ≡ getD other i 0 → sumTo (i + 1) (differAt part other) ≡ sumTo i (differAt part other)
+  apart-same h = omega (arith, apart-next, differ-no (getD part i 0) (getD other i 0) h)
+
+  pub apart-are : (n s : ℕ) → i ≡ n → s ≡ sumTo i (differAt part other) → s ≡ sumTo n (λ j. differ (nth part j) (nth other j))
+  unfolding differAt
+  apart-are n s e h = rw (← e) h
 
 -- two bits
 pub bit-bit : (x y : ℕ) → x ≤ 1 → y ≤ 1 → x * y ≤ 1
@@ -47,13 +66,15 @@ module _ (n m : ℕ) (x : List ℕ) (low : 1 ≤ m) (fits : m * n ≤ length x) 
   cut-at = part-at n m m x (partOf n (m - 1) x) cut-is low (le-refl m) fits
 
 module _ (n u v : ℕ) (x : List ℕ) (u1 : 1 ≤ u) (v1 : 1 ≤ v) (fits-u : u * n ≤ length x) (fits-v : v * n ≤ length x) where
-  pub cuts-fit : n ≤ 16 → Bits x → (length (partOf n (v - 1) x) ≡ length (partOf n (u - 1) x)) × (length (partOf n (u - 1) x) ≤ 2 ^ 32) × Bits (partOf n (u - 1) x) × Bits (partOf n (v - 1) x)
-  cuts-fit h b =
-      let p : length (partOf n (u - 1) x) ≡ n = cut-length n u x u1 fits-u in
-      (cut-length n v x v1 fits-v ∙ sym p, omega arith, cut-small n u (u - 1) x (omega arith) fits-u b, cut-small n v (v - 1) x (omega arith) fits-v b)
+  pub cuts-even : n ≤ 16 → (length (partOf n (v - 1) x) ≡ length (partOf n (u - 1) x)) × (length (partOf n (u - 1) x) ≤ 2 ^ 32)
+  cuts-even h = let p : length (partOf n (u - 1) x) ≡ n = cut-length n u x u1 fits-u in (cut-length n v x v1 fits-v ∙ sym p, omega arith)
 
-  pub cuts-shared : sumTo (length (partOf n (u - 1) x)) (λ i. nth (partOf n (u - 1) x) i * nth (partOf n (v - 1) x) i) ≡ sumTo n (λ i. bitAt n x u i * bitAt n x v i)
-  cuts-shared = rw (cut-length n u x u1 fits-u) (sumTo-eq n _ _ (λ i p q. ap₂ _*_ (cut-at n u x u1 fits-u i p q) (cut-at n v x v1 fits-v i p q)))
+  pub cuts-small : Bits x → Bits (partOf n (u - 1) x) × Bits (partOf n (v - 1) x)
+  cuts-small b = (cut-small n u (u - 1) x (omega arith) fits-u b, cut-small n v (v - 1) x (omega arith) fits-v b)
+
+  -- what f makes of the two bits of each choice, added up
+  pub cuts-sum : (f : ℕ → ℕ → ℕ) → sumTo (length (partOf n (u - 1) x)) (λ i. f (nth (partOf n (u - 1) x) i) (nth (partOf n (v - 1) x) i)) ≡ sumTo n (λ i. f (bitAt n x u i) (bitAt n x v i))
+  cuts-sum f = rw (cut-length n u x u1 fits-u) (sumTo-eq n _ _ (λ i p q. ap₂ f (cut-at n u x u1 fits-u i p q) (cut-at n v x v1 fits-v i p q)))
 
 -- ---- the misses
 

@@ -6,7 +6,7 @@ use lib.ListN.{length, getD}
 use lib.IntN.{pos}
 use lib.Dec.{eqb, leb}
 use Rattle.lists.specs.Tests.{all}
-use Rattle.lists.specs.Sums.{sumTo, same}
+use Rattle.lists.specs.Sums.{sumTo, lowest, same}
 use Rattle.qubo.specs.Formula.{Formula}
 use Rattle.qubo.specs.Terms.{each, over, oneHot}
 
@@ -48,3 +48,7 @@ areChoices N n p = eqb (length p) N && all (λ c. leb 1 c && leb c n) p
 -- "sets each meter's bit for its channel or group and no others"
 unfoldable pub code : ℕ → List ℕ → List ℕ
 code n p = over p (λ c. each n (same c))
+
+-- the choices that bits would code: the lowest one set at each of N meters
+unfoldable pub candidate : ℕ → ℕ → List ℕ → List ℕ
+candidate N n x = each N (λ v. lowest n (bitAt n x v))

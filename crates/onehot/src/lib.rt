@@ -4,10 +4,10 @@ ghost use Prim.Native.Nat.{ℕ, _+_, _*_, _≤_, _<_, _^_};
 ghost use mathlib.Core.Bool.{true};
 ghost use mathlib.Core.Path.{_≡_};
 ghost use lib.ListN.{length, getD};
-ghost use Rattle.lists.specs.Sums.{sumTo, lowest, nth};
+ghost use Rattle.lists.specs.Sums.{sumTo, lowest, differ, nth};
 ghost use Rattle.qubo.specs.Formula.{Bits, Assignment};
 ghost use Rattle.qubo.specs.Rows.{addTerms, Room};
-ghost use Rattle.onehot.specs.Choices.{bitAt, oneHots, missSquared, misses, areChoices, code};
+ghost use Rattle.onehot.specs.Choices.{bitAt, oneHots, missSquared, misses, areChoices, code, candidate};
 
 // How many bits of a part are set.
 pub fn set_count(part: &[u8]) -> usize
@@ -61,6 +61,45 @@ pub fn shared(bits: &[u8], u: u8, v: u8, n: usize) -> u64
     overlap(&bits[a..a + n], &bits[b..b + n])
 }
 
+// On how many choices exactly one of two parts has its bit set.
+fn apart(part: &[u8], other: &[u8]) -> u64
+    requires { ⌜ (length (now other) ≡ length (now part)) × (length (now part) ≤ 2 ^ 32) ⌝ }
+    ensures { λ r. ⌜ r ≡ sumTo (length (now (part .entry))) (λ i. differ (nth (now (part .entry)) i) (nth (now (other .entry)) i)) ⌝ }
+{
+    let mut count: u64 = 0;
+    let mut i = 0;
+    while i < part.len() {
+        if part[i] != other[i] {
+            count += 1;
+        }
+        i += 1;
+    }
+    count
+}
+
+// On how many choices exactly one of the meters u and v has its bit set.
+pub fn unshared(bits: &[u8], u: u8, v: u8, n: usize) -> u64
+    requires { ⌜ (1 ≤ u) × (1 ≤ v) × (u * n ≤ length (now bits)) × (v * n ≤ length (now bits)) × (n ≤ 16) ⌝ }
+    ensures { λ r. ⌜ r ≡ sumTo n (λ i. differ (bitAt n (now (bits .entry)) u i) (bitAt n (now (bits .entry)) v i)) ⌝ }
+{
+    let a = ((u as usize) - 1) * n;
+    let b = ((v as usize) - 1) * n;
+    apart(&bits[a..a + n], &bits[b..b + n])
+}
+
+// Adds w to the sum of each choice that is set in a part, which stand in the places 1, 2, ..
+pub fn add_part(sums: &mut [u64], part: &[u8], w: u64)
+    requires { ⌜ (length (now part) < length (now sums)) × (w ≤ 65535) × Bits (now part) × ((i : ℕ) → 1 ≤ i → i ≤ length (now part) → getD (now sums) i 0 < 4294967296) ⌝ }
+    ensures { λ _. ⌜ (length (now (sums .exit)) ≡ length (now (sums .entry))) × ((i : ℕ) → 1 ≤ i → i ≤ length (now (part .entry)) → getD (now (sums .exit)) i 0 ≡ getD (now (sums .entry)) i 0 + w * nth (now (part .entry)) i) × ((i : ℕ) → getD (now (sums .exit)) i 0 ≤ getD (now (sums .entry)) i 0 + w) ⌝ }
+{
+    let mut i: usize = 0;
+    while i < part.len() {
+        let next = i + 1;
+        sums[next] = sums[next] + w * (part[i] as u64);
+        i = next;
+    }
+}
+
 // (1 - k)².
 fn miss_squared(k: usize) -> u64
     requires { ⌜ k ≤ 16 ⌝ }
@@ -109,6 +148,21 @@ pub fn are_choices(plan: &[u8], meters: usize, n: usize) -> bool
         v += 1;
     }
     true
+}
+
+// The lowest choice set at each meter, 0 where none is.
+pub fn read_off(bits: &[u8], meters: usize, n: usize, plan: &mut [u8])
+    requires { ⌜ (meters ≤ 48) × (n ≤ 16) × (length (now bits) ≡ meters * n) × (length (now plan) ≡ meters) ⌝ }
+    ensures { λ _. ⌜ now (plan .exit) ≡ candidate meters n (now (bits .entry)) ⌝ }
+{
+    let mut v: usize = 0;
+    while v < meters {
+        let start = v * n;
+        let end = start + n;
+        let c = lowest_set(&bits[start..end]);
+        plan[v] = c as u8;
+        v += 1;
+    }
 }
 
 // Makes all bits 0.

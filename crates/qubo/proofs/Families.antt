@@ -89,6 +89,10 @@ constant-sum (t ∷ f) = ap (λ z. termConstant t +ℤ z) (constant-sum f)
 pub constant-append : (f g : Formula) → constantOf (f ++ g) ≡ constantOf f +ℤ constantOf g
 constant-append f g = constant-sum (f ++ g) ∙ sumOver-append f g termConstant ∙ sym (ap₂ _+ℤ_ (constant-sum f) (constant-sum g))
 
+-- a family of terms that have nothing at 1
+pub each-constant : (n : ℕ) (F : ℕ → Term) → ((i : ℕ) → termConstant (F i) ≡ pos 0) → constantOf (each n F) ≡ pos 0
+each-constant n F h = constant-sum (each n F) ∙ sumOver-each n F termConstant ∙ sumEach-none n (λ i. termConstant (F i)) (λ i p q. h i)
+
 -- ---- what is added up over the entries of a form
 pub coef-sum : (es : List (ℕ × ℤ)) (j : ℕ) → coef es j ≡ sumOver es (λ e. only (e .0) (e .1) j)
 coef-sum [] j = refl

@@ -9,8 +9,10 @@ pub mod Least
 pub mod Penalty
 pub mod Families
 pub mod Values
+pub mod Plans
 pub mod RowAction
 pub mod RowTerms
+pub mod RowWalk
 pub mod Runs
 pub mod RowShapes
 pub mod Turns

@@ -6,7 +6,8 @@ use Prim.Native.Nat.{ℕ, zero, suc, _+_, _-_, _≤_, _<_}
 use native.Mathlib.Numerals.{add-one}
 use native.Mathlib.Omega.{arith}
 use native.Mathlib.Decide.{ℕ-discrete}
-use lib.ListN.{length, getD, set}
+use lib.ListN.{length, getD, set, take}
+use lib.Seq.{length-take-le}
 use lib.IntN.{ℤ, pos, natAbs, _+ℤ_, +ℤ-idl, +ℤ-idr, +ℤ-assoc, +ℤ-comm}
 use Rattle.qubo.specs.Formula.{Term, Formula}
 use Rattle.qubo.specs.Table.{only, termSingle, termPair, cell, listOf, rowOf}
@@ -207,3 +208,11 @@ room-turn limit n G t i r l h = rw (add-one t) (record { room = λ k. omega (ari
 -- the next terms have room by the norm of those so far and their own
 pub row-room : (limit bits : ℕ) (f g : Formula) (i : ℕ) (r : List ℤ) → r ≡ rowOf f bits i → formulaNorm f + formulaNorm g ≤ limit → Room limit g r
 row-room limit bits f g i r e h = rw (e ∙ sym (row-added f bits i)) (room-back limit f g i (zeros (bits - i)) (room-zeros limit (f ++ g) (bits - i) (omega (arith, norm-append f g))))
+
+-- ---- the front of a lent slice is as long as the row
+module _ (d : List ℤ) (bits i : ℕ) (h : bits ≤ i + length d) where
+  pub front-length : length (take (bits - i) d) ≡ bits - i
+  front-length = length-take-le (bits - i) d (omega arith)
+
+  pub front-top : i < bits → i + length (take (bits - i) d) ≡ bits
+  front-top g = omega (arith, front-length)

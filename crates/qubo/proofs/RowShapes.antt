@@ -1,20 +1,20 @@
--- What one-hot squares and squared differences over runs add to the row of bit i.
+-- What one-hot squares, squared differences over runs and the terms of two unequal bits add to the row of bit i.
 -- Assumes nothing.
 use mathlib.Core.Path.{_≡_, refl, sym, ap, ap₂, _∙_}
 use mathlib.Core.List.{List, [], _∷_, _++_}
-use Prim.Native.Nat.{ℕ, _+_, _*_, _≤_}
+use Prim.Native.Nat.{ℕ, _+_, _*_, _≤_, _<_}
 use native.Mathlib.Omega.{arith}
 use lib.IntN.{ℤ, pos, negsuc, negℤ, natAbs, _+ℤ_, _-ℤ_, _*ℤ_}
 use Rattle.qubo.specs.Table.{only, coef, coefficient}
 use Rattle.qubo.specs.Norm.{entriesNorm, termNorm}
-use Rattle.qubo.specs.Terms.{bit, bits, oneLess, difference, single, times, oneHot, squaredDifference}
+use Rattle.qubo.specs.Terms.{bit, bits, oneLess, difference, single, times, pair, unequal, oneHot, squaredDifference}
 use Rattle.qubo.specs.Rows.{plus, addTerms, runBit, runSum, runOneHot, runDifference, IsNumber, later}
 use Rattle.qubo.specs.declared.Run.{Run}
 use Rattle.qubo.proofs.Ring.{var, con, _⊕_, _⊖_, _⊗_, neg, solve}
 use Rattle.qubo.proofs.Families.{coef-append, entries-norm-append, bits-norm}
 use Rattle.qubo.proofs.RowAction.{plus-eq, plus-plus, add-two, Absent}
-use Rattle.qubo.proofs.RowTerms.{only-times, only-add, single-here, add-times, product-bits, product-split, coef-scaled, square-absent, own, square-row, square-flip, times-norm}
-use Rattle.qubo.proofs.Runs.{later-coef, run-has}
+use Rattle.qubo.proofs.RowTerms.{only-times, only-add, single-here, pair-below, add-times, product-bits, product-split, product-empty, coef-scaled, square-absent, own, square-row, square-flip, times-norm}
+use Rattle.qubo.proofs.Runs.{run-lacks, later-coef, run-has}
 
 -- two numbers of bit i add up
 single-sum : (p q : ℤ) (i : ℕ) (r : List ℤ) → addTerms (single q i ∷ []) i (addTerms (single p i ∷ []) i r) ≡ addTerms (single (p +ℤ q) i ∷ []) i r
@@ -110,6 +110,42 @@ difference-swap a left right i r = square-flip a (difference (left .count) (runB
         ∙ solve (var 0 ⊕ con (negsuc 0) ⊗ var 1) (neg (var 1 ⊕ con (negsuc 0) ⊗ var 0)) tt (x ∷ y ∷ [])
         ∙ ap negℤ (sym (difference-coef (right .count) (runBit right) (left .count) (runBit left) j y x refl refl))
 
+-- ---- two unequal bits: the squared difference of two runs of one bit
+abbrev oneBit : ℕ → Run
+oneBit p = record { start = p; step = 1; count = 1 }
+
+one-bit : (p : ℕ) → runBit (oneBit p) 1 ≡ p
+one-bit p = omega arith
+
+one-bit-has : (p : ℕ) → IsNumber (oneBit p) p 0
+one-bit-has p = record { below = omega arith; here = omega arith }
+
+one-bit-lacks : (p i : ℕ) → (p ≡ i → ⊥) → coef (runSum (oneBit p)) i ≡ pos 0
+one-bit-lacks p i ne = run-lacks (oneBit p) i (λ t h e. ne (omega arith))
+
+unequal-difference : (q : ℤ) (p r : ℕ) → unequal q p r ≡ runDifference q (oneBit p) (oneBit r)
+unequal-difference q p r = sym (ap₂ (λ (s t : ℕ). unequal q s t) (one-bit p) (one-bit r))
+
+-- bit i is neither of the two
+pub unequal-absent : (q : ℤ) (p r i : ℕ) → (p ≡ i → ⊥) → (r ≡ i → ⊥) → Absent (unequal q p r ∷ []) i
+unequal-absent q p r i np nr = rw (unequal-difference q p r) (difference-absent q (oneBit p) (oneBit r) i (one-bit-lacks p i np ∙ sym (one-bit-lacks r i nr)))
+
+-- it is the first of the two: q at it, -2 q at the pair
+own-unequal : (q : ℤ) (i r : ℕ) (row : List ℤ) → (r ≡ i → ⊥) → addTerms (runDifference q (oneBit i) (oneBit r) ∷ []) i row ≡ addTerms (pair (pos 0 -ℤ pos 2 *ℤ q) i r ∷ []) i (addTerms (single q i ∷ []) i row)
+own-unequal q i r row ne =
+    difference-row q (oneBit i) (oneBit r) i 0 row (omega arith) (one-bit-has i) (one-bit-lacks r i ne)
+    ∙ ap₂ (λ (t : ℕ) (s : List ℤ). addTerms (pair (pos 0 -ℤ pos 2 *ℤ q) i t ∷ []) i s) (one-bit r) (product-empty (pos 2 *ℤ q) (bit i) i (addTerms (single q i ∷ []) i row))
+
+-- it is the lower one: the pair stands in its row
+pub unequal-low : (q : ℤ) (i r : ℕ) (row : List ℤ) → i < r → addTerms (unequal q i r ∷ []) i row ≡ addTerms (pair (pos 0 -ℤ pos 2 *ℤ q) i r ∷ []) i (addTerms (single q i ∷ []) i row)
+unequal-low q i r row h = rw (unequal-difference q i r) (own-unequal q i r row (omega arith))
+
+-- it is the higher one: the pair stands in the other's row
+pub unequal-high : (q : ℤ) (p i : ℕ) (row : List ℤ) → p < i → addTerms (unequal q p i ∷ []) i row ≡ addTerms (single q i ∷ []) i row
+unequal-high q p i row h =
+    rw (unequal-difference q p i)
+    (difference-swap q (oneBit p) (oneBit i) i row ∙ own-unequal q i p row (omega arith) ∙ pair-below (pos 0 -ℤ pos 2 *ℤ q) i p (addTerms (single q i ∷ []) i row) h)
+
 -- ---- norms
 pub bits-times-norm : (q : ℤ) (i n : ℕ) (b : ℕ → ℕ) → termNorm (times q i (bits (pos 1) n b)) ≡ natAbs q * n
 bits-times-norm q i n b = times-norm q i (bits (pos 1) n b) ∙ ap (λ (k : ℕ). natAbs q * k) (let e : entriesNorm (bits (pos 1) n b) ≡ n = omega (arith, bits-norm (pos 1) n b) in e)
@@ -121,3 +157,6 @@ pub difference-norm : (a : ℤ) (n : ℕ) (b : ℕ → ℕ) (m : ℕ) (c : ℕ �
 difference-norm a n b m c =
     let e : 0 + entriesNorm (bits (pos 1) n b ++ bits (negsuc 0) m c) ≡ n + m = omega (arith, entries-norm-append (bits (pos 1) n b) (bits (negsuc 0) m c), bits-norm (pos 1) n b, bits-norm (negsuc 0) m c) in
     ap (λ (k : ℕ). natAbs a * (k * k)) e
+
+pub unequal-norm : (q : ℤ) (p r : ℕ) → termNorm (unequal q p r) ≡ natAbs q * 4
+unequal-norm q p r = difference-norm q 1 (runBit (oneBit p)) 1 (runBit (oneBit r))

@@ -15,14 +15,14 @@ use mir.Val.{SFits}
 use Rattle.qubo.specs.Formula.{Term, Formula}
 use Rattle.qubo.specs.Table.{dot, rowEnergy, absSum}
 use Rattle.qubo.specs.Norm.{termNorm}
-use Rattle.qubo.specs.Terms.{bit, bits, single, pair, times}
+use Rattle.qubo.specs.Terms.{bit, bits, single, pair, unequal, times}
 use Rattle.qubo.specs.Rows.{zeros, addTerms, runSum, runBit, runOneHot, runDifference, IsNumber, later, Room}
 use Rattle.qubo.specs.declared.Run.{Run}
 use Rattle.qubo.proofs.Ints.{natAbs-+ℤ, natAbs-*ℤ, natAbs-negℤ, one-*ℤ}
 use Rattle.qubo.proofs.Order.{mag-natAbs}
 use Rattle.qubo.proofs.RowAction.{added-abs, room-front, room-back}
 use Rattle.qubo.proofs.RowTerms.{product-split, single-norm, times-norm}
-use Rattle.qubo.proofs.RowShapes.{bits-times-norm, one-hot-norm, difference-norm}
+use Rattle.qubo.proofs.RowShapes.{bits-times-norm, one-hot-norm, difference-norm, unequal-norm}
 
 -- a number whose absolute value is below 2 ^ 63 fits an i64
 pub fits-abs : (z : ℤ) → natAbs z < 2 ^ 63 → SFits w64 z
@@ -142,6 +142,17 @@ difference-parts a p q s run other i t r n h hp hq hs =
 
 pub difference-room-swap : (a : ℤ) (left right : Run) (r : List ℤ) → Room (2 ^ 61) (runDifference a left right ∷ []) r → Room (2 ^ 61) (runDifference a right left ∷ []) r
 difference-room-swap a left right r h = record { room = λ k. omega (arith, h .room k, difference-norm a (left .count) (runBit left) (right .count) (runBit right), difference-norm a (right .count) (runBit right) (left .count) (runBit left)) }
+
+-- ---- add_unequal and add_own_unequal: their numbers fit, and there is room for their parts
+module _ (v : ℤ) (p q : ℕ) (r : List ℤ) (h : Room (2 ^ 61) (unequal v p q ∷ []) r) where
+  pub unequal-factor : natAbs v ≤ 2 ^ 61
+  unequal-factor = factor-small v 4 (unequal v p q) r (unequal-norm v p q) h (omega arith)
+
+  pub unequal-single : (i : ℕ) → Room (2 ^ 61) (single v i ∷ []) r
+  unequal-single i = record { room = λ k. omega (arith, h .room k, unequal-norm v p q, single-norm v i) }
+
+  pub unequal-pair : (s : ℤ) (i j : ℕ) → natAbs s ≤ 2 * natAbs v → Room (2 ^ 61) (pair s i j ∷ []) (addTerms (single v i ∷ []) i r)
+  unequal-pair s i j g = record { room = λ k. omega (arith, h .room k, unequal-norm v p q, added-abs (single v i ∷ []) i r k, single-norm v i, times-norm s i ((j, pos 1) ∷ [])) }
 
 -- ---- dot_of: what is left of the sum
 pub dot-next : (r : List ℤ) (x : List ℕ) (s : ℤ) (k : ℕ) → k < length r → k < length x → s +ℤ pos (getD x k 0) *ℤ getD r k (pos 0) +ℤ dot (drop (k + 1) r) (drop (k + 1) x) ≡ s +ℤ dot (drop k r) (drop k x)

@@ -3,3 +3,4 @@ pub mod Table
 pub mod Norm
 pub mod Terms
 pub mod Rows
+pub mod Best

@@ -58,6 +58,10 @@ times q p es = product q (bit p) (sum es)
 abbrev pub pair : ℤ → ℕ → ℕ → Term
 pair q p r = product q (bit p) (bit r)
 
+-- q if exactly one of bit p and bit r is set: q times (bit p - bit r)², which is 1 just there
+abbrev pub unequal : ℤ → ℕ → ℕ → Term
+unequal q p r = square q (sum ((p, pos 1) ∷ (r, negsuc 0) ∷ []))
+
 -- one-hot: a times (1 - bits set)², which for a > 0 is least where exactly one of b 1, .., b n is set
 abbrev pub oneHot : ℤ → ℕ → (ℕ → ℕ) → Term
 oneHot a n b = square a (oneLess n b)

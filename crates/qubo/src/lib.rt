@@ -9,7 +9,7 @@ ghost use lib.ListN.{length, getD};
 ghost use lib.IntN.{pos, natAbs, _+ℤ_, _*ℤ_};
 ghost use Rattle.qubo.specs.Formula.{Bits};
 ghost use Rattle.qubo.specs.Table.{only, coef, dot, rowEnergy, absSum};
-ghost use Rattle.qubo.specs.Terms.{single, pair, times};
+ghost use Rattle.qubo.specs.Terms.{single, pair, unequal, times};
 ghost use Rattle.qubo.specs.Rows.{zeros, plus, addTerms, runSum, runOneHot, runDifference, RunBelow, IsNumber, later, Room};
 
 // The bits start, start + step, start + 2 step, ..: count of them.
@@ -69,6 +69,29 @@ pub fn add_pair(row: &mut [i64], i: usize, p: usize, q: usize, v: i64)
         add_to_own(row, i, q, v);
     } else if q == i {
         add_to_own(row, i, p, v);
+    }
+}
+
+// Adds v times (bit i - bit j)² to row i, for i < j.
+fn add_own_unequal(row: &mut [i64], i: usize, j: usize, v: i64)
+    requires { ⌜ (i < j) × (j < i + length (now row)) × Room (2 ^ 61) (unequal v i j ∷ []) (now row) ⌝ }
+    ensures { λ _. ⌜ now (row .exit) ≡ addTerms (unequal v i j ∷ []) i (now (row .entry)) ⌝ }
+{
+    let twice = 2 * v;
+    let minus = 0 - twice;
+    add_single(row, i, i, v);
+    add_to_own(row, i, j, minus);
+}
+
+// Adds v times (bit p - bit q)² to row i, for p < q: v if exactly one of them is set. Their pair stands in the row of the lower one.
+pub fn add_unequal(row: &mut [i64], i: usize, p: usize, q: usize, v: i64)
+    requires { ⌜ (p < q) × (q < i + length (now row)) × Room (2 ^ 61) (unequal v p q ∷ []) (now row) ⌝ }
+    ensures { λ _. ⌜ now (row .exit) ≡ addTerms (unequal v p q ∷ []) i (now (row .entry)) ⌝ }
+{
+    if q == i {
+        add_single(row, i, i, v);
+    } else if p == i {
+        add_own_unequal(row, i, q, v);
     }
 }
 

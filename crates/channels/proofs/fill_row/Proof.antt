@@ -5,7 +5,8 @@ use native.Mathlib.Omega.{arith}
 use lib.IntN.{ℤ}
 use lib.ListN.{drop}
 use borrow.Author.Needs.{needs}
-use Rattle.channels.proofs.ClashRows.{bits-few, front-length, front-top}
+use Rattle.onehot.proofs.Ends.{bits-few}
+use Rattle.qubo.proofs.RowAction.{front-length, front-top}
 use Rattle.channels.proofs.fill_row.Statement.{statement}
 use Rattle.channels.proofs.fill_row.Tie as tie
 

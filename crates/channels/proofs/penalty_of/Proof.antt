@@ -1,8 +1,9 @@
 use mathlib.Core.Path.{refl}
 use native.Mathlib.Omega.{arith}
 use borrow.Author.Needs.{needs}
+use Rattle.lists.proofs.Stores.{zero-entries}
 use Rattle.channels.proofs.Load.{penalty-small}
-use Rattle.channels.proofs.Gathering.{penalty-is, zero-entries}
+use Rattle.channels.proofs.Gathering.{penalty-is}
 use Rattle.channels.proofs.penalty_of.Statement.{statement}
 use Rattle.channels.proofs.penalty_of.Tie as tie
 

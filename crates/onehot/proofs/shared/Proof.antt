@@ -1,7 +1,8 @@
+use Prim.Native.Nat.{_*_}
 use mathlib.Core.Path.{_∙_}
 use native.Mathlib.Omega.{arith}
 use Rattle.onehot.proofs.Parts.{part-end}
-use Rattle.onehot.proofs.Turns.{cuts-fit, cuts-shared}
+use Rattle.onehot.proofs.Turns.{cuts-even, cuts-small, cuts-sum}
 use Rattle.onehot.proofs.shared.Statement.{statement}
 use Rattle.onehot.proofs.shared.Tie as tie
 
@@ -44,12 +45,14 @@ part-overlap-end-2 c = omega (arith, part-end (c .before .before .args .n) (c .b
 overlap-requires : tie.Need-overlap-requires
 overlap-requires c κs =
     let s = c .before .before .before .pre in
-    cuts-fit _ _ _ _ (s .0) (s .1) (s .2) (s .3) (s .4) (s .5)
+    let e = cuts-even _ _ _ _ (s .0) (s .1) (s .2) (s .3) (s .4) in
+    let b = cuts-small _ _ _ _ (s .0) (s .1) (s .2) (s .3) (s .5) in
+    (e .0, e .1, b .0, b .1)
 
 returns : tie.Need-returns
 returns c =
     let s = c .before .before .before .before .pre in
-    c .overlap .ensures ∙ cuts-shared _ _ _ _ (s .0) (s .1) (s .2) (s .3)
+    c .overlap .ensures ∙ cuts-sum _ _ _ _ (s .0) (s .1) (s .2) (s .3) _*_
 
 pub shared-spec : {M : Type 1} → statement M
 shared-spec =

@@ -5,12 +5,14 @@ use lib.ListN.{length}
 use native.Mathlib.Omega.{arith}
 use Rattle.links.specs.Links.{linksOf}
 use Rattle.links.proofs.Walk.{link-at, Summed, summed-start, summed-turn, summed-skip, summed-end}
-use Rattle.channels.proofs.Clashing.{clashOf, clash-sum, clash-small, clash-yes, clash-no}
+use Rattle.lists.specs.Sums.{same}
+use Rattle.onehot.proofs.LinkSums.{planLink}
+use Rattle.channels.proofs.Clashing.{clash-sum, clash-small, clash-yes, clash-no}
 use Rattle.channels.proofs.clashes.clash_weight.Statement.{statement}
 use Rattle.channels.proofs.clashes.clash_weight.Tie as tie
 
 abbrev Inv-loop : tie.InvT-loop
-Inv-loop plan us vs ws meters sum₀ k₀ sum k = Summed us vs ws (clashOf plan) k sum
+Inv-loop plan us vs ws meters sum₀ k₀ sum k = Summed us vs ws (planLink same plan) k sum
 
 abbrev μ-loop : tie.MeasureT-loop
 μ-loop plan us vs ws meters sum₀ k₀ sum k = length us - k

@@ -3,12 +3,15 @@ use mathlib.Core.Path.{_∙_}
 use lib.ListN.{length}
 use native.Mathlib.Omega.{arith}
 use Rattle.links.proofs.Walk.{link-at, Summed, summed-start, summed-turn, summed-end}
-use Rattle.channels.proofs.Clashing.{clashingAt, clashing-sum, clashing-small, clashing-link, clashing-room, ends-fit}
+use Rattle.onehot.proofs.Ends.{ends-fit}
+use Prim.Native.Nat.{_*_}
+use Rattle.onehot.proofs.LinkSums.{bitsLink, bits-small, bits-link, bits-room}
+use Rattle.channels.proofs.Clashing.{clashing-sum, both-bits}
 use Rattle.channels.proofs.clashes.clashing.Statement.{statement}
 use Rattle.channels.proofs.clashes.clashing.Tie as tie
 
 abbrev Inv-loop : tie.InvT-loop
-Inv-loop bits us vs ws meters n sum₀ k₀ sum k = Summed us vs ws (clashingAt n bits) k sum
+Inv-loop bits us vs ws meters n sum₀ k₀ sum k = Summed us vs ws (bitsLink _*_ n bits) k sum
 
 abbrev μ-loop : tie.MeasureT-loop
 μ-loop bits us vs ws meters n sum₀ k₀ sum k = length us - k
@@ -40,13 +43,13 @@ mul-sum-2 : tie.Need-mul-sum-2 Inv-loop μ-loop
 mul-sum-2 c =
     let l = c .before .before .before .before .before .loop in
     let s = c .before .before .before .before .before .before .before .before .before .before in
-    omega (arith, clashing-room _ _ _ _ _ _ _ (c .before .shared .ensures) _ _ (s .pre .0) (s .pre .1 .bits) (l .inv) (omega arith))
+    omega (arith, bits-room _*_ _ _ _ _ _ _ _ (c .before .shared .ensures) (both-bits _ _ (s .pre .1 .bits)) _ _ (s .pre .0) (l .inv) (omega arith))
 
 add-sum : tie.Need-add-sum Inv-loop μ-loop
 add-sum c =
     let l = c .before .before .before .before .before .loop in
     let s = c .before .before .before .before .before .before .before .before .before .before in
-    omega (arith, clashing-room _ _ _ _ _ _ _ (c .before .shared .ensures) _ _ (s .pre .0) (s .pre .1 .bits) (l .inv) (omega arith))
+    omega (arith, bits-room _*_ _ _ _ _ _ _ _ (c .before .shared .ensures) (both-bits _ _ (s .pre .1 .bits)) _ _ (s .pre .0) (l .inv) (omega arith))
 
 add-k : tie.Need-add-k Inv-loop μ-loop
 add-k c = omega arith
@@ -56,13 +59,13 @@ loop-less c = omega arith
 
 loop-again : tie.Need-loop-again Inv-loop μ-loop
 loop-again c =
-    summed-turn _ _ _ _ _ _ (c .before .before .before .before .before .loop .inv) _ (omega arith) (clashing-link _ _ _ _ _ _ _ (c .before .shared .ensures))
+    summed-turn _ _ _ _ _ _ (c .before .before .before .before .before .loop .inv) _ (omega arith) (bits-link _*_ _ _ _ _ _ _ _ (c .before .shared .ensures))
 
 returns : tie.Need-returns Inv-loop μ-loop
 returns c =
     let s = c .before .before .before .before .before .before in
     let e = summed-end _ _ _ _ _ _ (c .before .loop .inv) (omega arith) in
-    (e ∙ clashing-sum _ _ _, rw e (clashing-small _ _ _ _ (s .pre .0 .arrays .survey) (s .pre .0 .high) (s .pre .1 .bits)))
+    (e ∙ clashing-sum _ _ _, rw e (bits-small _*_ _ _ (both-bits _ _ (s .pre .1 .bits)) (s .pre .0 .high) _ _ (s .pre .0 .arrays .survey)))
 
 pub clashing-spec : {M : Type 1} → statement M
 clashing-spec =

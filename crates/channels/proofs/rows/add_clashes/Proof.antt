@@ -8,13 +8,14 @@ use lib.ListN.{length, getD}
 use Rattle.links.proofs.Halving.{ends-rise}
 use Rattle.links.proofs.Walk.{arrays-few}
 use Rattle.qubo.proofs.Turns.{fits-abs}
-use Rattle.channels.proofs.ClashRows.{Walked, bits-few, walked-first, walked-stop, walked-end, walked-turn, turn-inside, turn-room}
+use Rattle.onehot.proofs.Ends.{bits-few}
+use Rattle.channels.proofs.ClashRows.{Added, added-first, added-turn, added-stop, added-all, turn-inside, turn-room}
 use Rattle.channels.proofs.rows.add_clashes.Statement.{statement}
 use Rattle.channels.proofs.rows.add_clashes.Tie as tie
 
 -- the links before k are added, and k is the first link of the meter or after it
 abbrev Inv-loop : tie.InvT-loop
-Inv-loop row₀ us vs ws meters n i m k₀ row k = (k₀ ≤ k) × Walked n i us vs ws row₀ row k
+Inv-loop row₀ us vs ws meters n i m k₀ row k = (k₀ ≤ k) × Added n i us vs ws row₀ row k
 
 abbrev μ-loop : tie.MeasureT-loop
 μ-loop row₀ us vs ws meters n i m k₀ row k = length us - k
@@ -36,7 +37,7 @@ loop-holds : tie.Need-loop-holds Inv-loop μ-loop
 loop-holds c =
     let s = c .before .before .before .before in
     let f = c .first-link .ensures in
-    (omega arith, walked-first _ _ _ _ _ _ (s .pre .0 .0) _ _ (f .0) (f .1) (s .pre .1))
+    (omega arith, added-first _ _ _ _ _ _ (s .pre .0 .0) _ _ (f .0) (f .1) (s .pre .1))
 
 shared-slice-read-if1 : tie.Need-shared-slice-read-if1 Inv-loop μ-loop
 shared-slice-read-if1 c = c .before .loop-test .taken
@@ -53,7 +54,7 @@ returns c =
     let f = c .before .before .before .before .first-link in
     let l = c .before .before .before .loop in
     let h = c .before .before .loop-test .taken in
-    walked-stop _ _ _ _ _ _ (s .pre .0 .0) _ _ _ h (f .ensures .2 (l .k) (l .inv .0) h) (c .if1 .taken) (l .inv .1)
+    added-stop _ _ _ _ _ _ (s .pre .0 .0) _ _ _ (l .inv .1) h (f .ensures .2 (l .k) (l .inv .0) h) (c .if1 .taken)
 
 shared-slice-read-up : tie.Need-shared-slice-read-up Inv-loop μ-loop
 shared-slice-read-up c =
@@ -103,7 +104,7 @@ add-pair-requires c κs =
     let t = turn-inside _ _ _ _ _ _ (s .pre .0 .0) _ h e .1 in (
       omega (arith, w .size, s .pre .0 .1, s .pre .0 .2),
       omega (arith, t, w .size, s .pre .0 .1),
-      rw (toZ-pos w64 {n = getD (s .args .ws .now) (l .k) 0} (omega (arith, c .shared-slice-known6 .given (l .k)))) (turn-room _ _ _ _ _ _ (s .pre .0 .0) _ _ _ h e w),
+      rw (toZ-pos w64 {n = getD (s .args .ws .now) (l .k) 0} (omega (arith, c .shared-slice-known6 .given (l .k)))) (turn-room _ _ _ _ _ _ (s .pre .0 .0) _ _ _ w h e),
     )
 
 add-k : tie.Need-add-k Inv-loop μ-loop
@@ -121,7 +122,7 @@ loop-again c =
     let h = c .before .before .before .before .before .before .before .loop-test .taken in
     let e = c .before .before .before .before .before .if1 .left in (
       omega (arith, l .inv .0),
-      walked-turn _ _ _ _ _ _ (s .pre .0 .0) _ _ _ h e (l .inv .1) _ (c .before .add-pair .ensures ∙ rw (toZ-pos w64 {n = getD (s .args .ws .now) (l .k) 0} (omega (arith, c .before .before .shared-slice-known6 .given (l .k)))) refl),
+      added-turn _ _ _ _ _ _ (s .pre .0 .0) _ _ _ (l .inv .1) h e _ (c .before .add-pair .ensures ∙ rw (toZ-pos w64 {n = getD (s .args .ws .now) (l .k) 0} (omega (arith, c .before .before .shared-slice-known6 .given (l .k)))) refl),
     )
 
 same-length-2 : tie.Need-same-length-2 Inv-loop μ-loop
@@ -130,7 +131,7 @@ same-length-2 c = c .before .loop .inv .1 .size
 returns-2 : tie.Need-returns-2 Inv-loop μ-loop
 returns-2 c =
     let s = c .before .before .before .before .before .before in
-    walked-end _ _ _ _ _ _ (s .pre .0 .0) _ _ _ (c .loop-test .left) (c .before .loop .inv .1)
+    added-all _ _ _ _ _ _ (s .pre .0 .0) _ _ _ (c .before .loop .inv .1) (c .loop-test .left)
 
 pub add-clashes-spec : {M : Type 1} → statement M
 add-clashes-spec =

@@ -1,6 +1,8 @@
 use native.Mathlib.Omega.{arith}
 use borrow.Author.Needs.{needs}
-use Rattle.channels.proofs.ClashRows.{bits-few, hots-ready, clashes-ready, row-done}
+use Rattle.onehot.proofs.Ends.{bits-few}
+use Rattle.onehot.proofs.Rows.{hots-ready}
+use Rattle.channels.proofs.ClashRows.{clashes-ready, row-done}
 use Rattle.channels.proofs.rows.row_into.Statement.{statement}
 use Rattle.channels.proofs.rows.row_into.Tie as tie
 

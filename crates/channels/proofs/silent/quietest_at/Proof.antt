@@ -1,5 +1,5 @@
 use mathlib.Core.Path.{refl}
-use Rattle.channels.proofs.Gathering.{zero-entries}
+use Rattle.lists.proofs.Stores.{zero-entries}
 use Rattle.channels.proofs.Hearing.{quietest-is}
 use borrow.Author.Needs.{needs}
 use Rattle.channels.proofs.silent.quietest_at.Statement.{statement}

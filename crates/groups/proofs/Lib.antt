@@ -1,0 +1,17 @@
+pub mod SizeLemma
+pub mod Bracket
+pub mod Twice
+pub mod Worth
+pub mod Bound
+pub mod AnyPenalty
+pub mod Dealt
+pub mod Asking
+pub mod Demands
+pub mod Worked
+pub mod SizeRows
+pub mod Answers
+pub mod Cutting
+pub mod CutRows
+pub mod Counted
+pub mod SizesReady
+pub mod RowParts

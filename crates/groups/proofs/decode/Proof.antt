@@ -1,0 +1,38 @@
+use native.Mathlib.Omega.{arith}
+use borrow.Author.Needs.{needs}
+use Rattle.groups.proofs.Answers.{decode-none, decode-plan}
+use Rattle.groups.proofs.decode.Statement.{statement}
+use Rattle.groups.proofs.decode.Tie as tie
+
+bracket-of-requires : tie.Need-bracket-of-requires
+bracket-of-requires c κs = search needs
+
+returns : tie.Need-returns
+returns c =
+    let s = c .before .before .before .before .before .before .before in
+    decode-none _ _ (s .pre .0 .low) _ (s .pre .1) _ _ _ (c .before .bracket-of .ensures .0) (omega arith)
+
+read-off-requires : tie.Need-read-off-requires
+read-off-requires c κs = search needs
+
+cut-weight-requires : tie.Need-cut-weight-requires
+cut-weight-requires c κs = search needs
+
+same-length : tie.Need-same-length
+same-length c = search needs
+
+returns-2 : tie.Need-returns-2
+returns-2 c =
+    let s = c .before .before .before .before .before .before .before .before .before .before .before .before .before in
+    decode-plan _ _ (s .pre .0 .low) _ (s .pre .1) _ _ _ (c .before .before .before .before .before .before .before .bracket-of .ensures .0) (omega arith) _ _ (c .before .before .before .before .read-off .ensures) (c .cut-weight .ensures)
+
+pub decode-spec : {M : Type 1} → statement M
+decode-spec =
+    tie.close
+    (tie.spec
+    bracket-of-requires
+    returns
+    read-off-requires
+    cut-weight-requires
+    same-length
+    returns-2)

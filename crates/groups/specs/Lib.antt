@@ -1,0 +1,5 @@
+pub mod Sizes
+pub mod Formula
+pub mod Plans
+pub mod Decoding
+pub mod Best

@@ -1,0 +1,44 @@
+// Sums over the links: what an assignment cuts, and the cut weight of a plan.
+ghost use Prim.Native.Nat.{_*_, _≤_};
+ghost use mathlib.Core.Path.{_≡_};
+ghost use lib.ListN.{length};
+ghost use Rattle.links.specs.Links.{linksOf};
+ghost use Rattle.links.specs.Survey.{Arrays};
+ghost use Rattle.qubo.specs.Formula.{Assignment};
+ghost use Rattle.onehot.specs.Choices.{bitAt};
+ghost use Rattle.onehot.specs.Lent.{Lent};
+ghost use Rattle.groups.specs.Formula.{cuttingOf};
+ghost use Rattle.groups.specs.Plans.{cutWeight};
+
+// For each link and group, the weight if exactly one end is in it.
+pub fn cutting(bits: &[u8], us: &[u8], vs: &[u8], ws: &[u16], meters: usize, m: usize) -> u64
+    requires { ⌜ Lent meters m (now us) (now vs) (now ws) × Assignment (meters * m) (now bits) ⌝ }
+    ensures { λ r. ⌜ (r ≡ cuttingOf m (linksOf (now (us .entry)) (now (vs .entry)) (now (ws .entry))) (bitAt m (now (bits .entry)))) × (r ≤ 268431360) ⌝ }
+{
+    let mut sum: u64 = 0;
+    let mut k = 0;
+    while k < us.len() {
+        let apart = onehot::unshared(bits, us[k], vs[k], m);
+        sum += (ws[k] as u64) * apart;
+        k += 1;
+    }
+    sum
+}
+
+// The cut weight of a plan: each link once whose ends are in different groups.
+pub fn cut_weight(plan: &[u8], us: &[u8], vs: &[u8], ws: &[u16], meters: usize) -> u64
+    requires { ⌜ Arrays meters (now us) (now vs) (now ws) × (length (now plan) ≡ meters) ⌝ }
+    ensures { λ r. ⌜ r ≡ cutWeight (linksOf (now (us .entry)) (now (vs .entry)) (now (ws .entry))) (now (plan .entry)) ⌝ }
+{
+    let mut sum: u64 = 0;
+    let mut k = 0;
+    while k < us.len() {
+        let u = us[k] as usize;
+        let v = vs[k] as usize;
+        if plan[u - 1] != plan[v - 1] {
+            sum += ws[k] as u64;
+        }
+        k += 1;
+    }
+    sum
+}
