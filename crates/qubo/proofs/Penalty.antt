@@ -25,9 +25,13 @@ below-penalty A P C c = (there, λ e. omega (arith, unpenalised A P C e, c e))
     there : A * P + C < A → P ≡ 0
     there h = elim (ℕ-discrete P 0) [ yes e ↦ e | no n ↦ absurd (omega (arith, penalised A P C n)) ]
 
+-- an energy in ℤ that is a whole number from 0
+pub below-ℤ : (A E : ℕ) (z : ℤ) → z ≡ pos E → (z <ℤ pos A) ↔ (E < A)
+below-ℤ A E z e = subst (λ w. (w <ℤ pos A) ↔ (E < A)) (sym e) (λ h. ltb→lt E A (h .lt), λ h. ltZ-yes (lt→ltb E A h))
+
 -- the same of an energy in ℤ
 pub energy-below : (A P C : ℕ) (z : ℤ) → z ≡ pos (A * P + C) → (P ≡ 0 → C < A) → (z <ℤ pos A) ↔ (P ≡ 0)
-energy-below A P C z e c = subst (λ w. (w <ℤ pos A) ↔ (P ≡ 0)) (sym e) (λ h. b .0 (ltb→lt (A * P + C) A (h .lt)), λ p. ltZ-yes (lt→ltb (A * P + C) A (b .1 p)))
-  where
-    b : (A * P + C < A) ↔ (P ≡ 0)
-    b = below-penalty A P C c
+energy-below A P C z e c =
+    let i = below-ℤ A (A * P + C) z e in
+    let b = below-penalty A P C c in
+    (λ h. b .0 (i .0 h), λ p. i .1 (b .1 p))

@@ -7,13 +7,13 @@ use mathlib.Core.List.{List}
 use Prim.Native.Nat.{ℕ, _≤_, _<_}
 use native.Mathlib.Decide.{decLt}
 use native.Mathlib.Omega.{arith}
-use lib.Dec.{ltb→lt, lt→ltb}
 use lib.IntN.{pos}
-use lib.Signed.{_≤ℤ_, _<ℤ_, ltZ-yes}
+use lib.Signed.{_≤ℤ_, _<ℤ_}
 use Rattle.qubo.specs.Formula.{Formula, Assignment, value}
 use Rattle.qubo.specs.Best.{LeastEnergy, CodesPlan, LeastPlan, CodesLeast}
 use Rattle.qubo.proofs.Order.{≤ℤ-pos, pos-≤ℤ}
 use Rattle.qubo.proofs.Least.{least-assignment}
+use Rattle.qubo.proofs.Penalty.{below-ℤ}
 
 -- what is asked of a kind; E is the energy as a whole number from 0, and cost turns a plan's weight into the energy of its code
 pub record Penalised (f : Formula) (n A : ℕ) (E : List ℕ → ℕ) (isPlan : List ℕ → Bool) (codeOf : List ℕ → List ℕ) (weight : List ℕ → ℕ) (cost : ℕ → ℕ) : Type 0 where
@@ -35,8 +35,8 @@ module _ (f : Formula) (n A : ℕ) (E : List ℕ → ℕ) (isPlan : List ℕ →
   -- an energy lies below A exactly where the assignment codes a plan
   pub below-exactly : (x : List ℕ) → Assignment n x → (value f x <ℤ pos A) ↔ CodesPlan isPlan codeOf x
   below-exactly x a =
-      subst (λ z. (z <ℤ pos A) ↔ CodesPlan isPlan codeOf x) (sym (k .energy x a))
-      (λ h. k .below x a .0 (ltb→lt (E x) A (h .lt)), λ c. ltZ-yes (lt→ltb (E x) A (k .below x a .1 c)))
+      let i = below-ℤ A (E x) (value f x) (k .energy x a) in
+      (λ h. k .below x a .0 (i .0 h), λ c. i .1 (k .below x a .1 c))
 
   -- a plan's code lies below A
   code-below : (p : List ℕ) → isPlan p ≡ true → E (codeOf p) < A

@@ -35,13 +35,14 @@ cast-sums c = omega (arith, c .shared-slice-known .given (c .before .before .bef
 mul-sums-2 : tie.Need-mul-sums-2 Inv-loop μ-loop
 mul-sums-2 c =
     let s = c .before .before .before .before in
-    omega (arith, s .pre .1, times-bit (s .args .w) _ (s .pre .2 (c .before .before .before .loop .i)))
+    let b = s .pre .2 (c .before .before .before .loop .i) in
+    omega (arith, s .pre .1, b, times-bit (s .args .w) _ b)
 
 add-sums : tie.Need-add-sums Inv-loop μ-loop
 add-sums c =
     let s = c .before .before .before .before in
     let l = c .before .before .before .loop in
-    omega (arith, s .pre .1, times-bit (s .args .w) _ (s .pre .2 (l .i)), l .inv .1 .rest (l .i + 1) (omega arith), s .pre .3 (l .i + 1) (omega arith) (omega arith))
+    omega (arith, s .pre .1, s .pre .2 (l .i), times-bit (s .args .w) _ (s .pre .2 (l .i)), l .inv .1 .rest (l .i + 1) (omega arith), s .pre .3 (l .i + 1) (omega arith) (omega arith))
 
 mul-sums-3 : tie.Need-mul-sums-3 Inv-loop μ-loop
 mul-sums-3 c = omega arith

@@ -79,8 +79,8 @@ loop-again c =
     let l = c .before .before .before .before .before .before .loop in
     let s = c .before .before .before .before .before .before .before in
     ⊎-elim
-    (λ w. rw (w .2) (summed-turn _ _ _ _ _ _ (l .inv) _ (omega arith) (clash-yes _ _ _ _ _ (s .pre .0) _ (omega arith) (w .0 .taken))))
-    (λ w. rw (w .1) (summed-skip _ _ _ _ _ _ (l .inv) (omega arith) (clash-no _ _ _ _ _ (s .pre .0) _ (omega arith) (w .0 .left))))
+    (λ w. rw (w .2) (summed-turn _ _ _ _ _ _ (l .inv) _ (omega arith) (clash-yes _ _ _ _ _ (s .pre .0) _ (omega arith) (omega (arith, w .0 .taken)))))
+    (λ w. rw (w .1) (summed-skip _ _ _ _ _ _ (l .inv) (omega arith) (clash-no _ _ _ _ _ (s .pre .0) _ (omega arith) (λ e. omega (arith, w .0 .left)))))
     (c .if1 .came)
 
 returns : tie.Need-returns Inv-loop μ-loop

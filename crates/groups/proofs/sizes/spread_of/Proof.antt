@@ -1,5 +1,5 @@
 use Prim.Native.Nat.{_≤_, _*_, _-_}
-use mathlib.Core.Path.{_≡_}
+use mathlib.Core.Path.{_≡_, sym}
 use native.Mathlib.Omega.{arith}
 use Rattle.groups.proofs.Counted.{spreadTo, spread-start, spread-next, spread-end}
 use Rattle.groups.proofs.sizes.spread_of.Statement.{statement}
@@ -7,13 +7,13 @@ use Rattle.groups.proofs.sizes.spread_of.Tie as tie
 
 -- the groups up to h are done
 abbrev Inv-loop : tie.InvT-loop
-Inv-loop sizes m sum₀ h₀ sum h = (h ≤ m) × (sum ≤ 34560 * h) × (sum ≡ spreadTo sizes h)
+Inv-loop sizes m sum₀ h₀ sum h = (sum ≡ spreadTo sizes h) × (h ≤ m) × (sum ≤ 34560 * h)
 
 abbrev μ-loop : tie.MeasureT-loop
 μ-loop sizes m sum₀ h₀ sum h = m - h
 
 loop-holds : tie.Need-loop-holds Inv-loop μ-loop
-loop-holds c = omega (arith, spread-start (c .before .args .sizes .now))
+loop-holds c = (sym (spread-start (c .before .args .sizes .now)), omega arith, omega arith)
 
 add-spread-to : tie.Need-add-spread-to Inv-loop μ-loop
 add-spread-to c = omega arith
@@ -38,7 +38,7 @@ returns : tie.Need-returns Inv-loop μ-loop
 returns c =
     let s = c .before .before .before .args in
     let l = c .before .loop in
-    (spread-end (s .sizes .now) (l .h) (s .m) (l .sum) (omega arith) (l .inv .2), omega arith)
+    (spread-end (s .sizes .now) (l .h) (s .m) (l .sum) (omega arith) (l .inv .0), omega arith)
 
 pub spread-of-spec : {M : Type 1} → statement M
 spread-of-spec =
