@@ -65,7 +65,7 @@ constant-is A N n ls =
 
 -- ---- as the code adds it up
 
-pub energy-small : (A P C : ℕ) → A ≤ 2 ^ 32 → P ≤ 10800 → C ≤ 268431360 → A * P + C < 2 ^ 63
+pub energy-small : (A P C : ℕ) → A ≤ 2 ^ 32 → P ≤ 106032 → C ≤ 268431360 → A * P + C < 2 ^ 63
 energy-small A P C a p c = omega (arith, mul-le-mul a p)
 
 pub energy-is : (A N n : ℕ) (ls : List Link) (x : List ℕ) (P C : ℕ) → P ≡ misses N n (bitAt n x) → C ≡ clashingOf n ls (bitAt n x) → pos (A * P + C) ≡ value (formula A N n ls) x

@@ -1,14 +1,14 @@
 -- Laws that the proofs of src/lib.rt cite: the sum of weights gives A, and the tests that the code makes decide what the definitions ask. Assumes nothing.
 use Prim.Native.Nat.{ℕ, _+_, _*_, _≤_}
-use mathlib.Core.Path.{_≡_, refl, sym, ap, _∙_}
-use mathlib.Core.Bool.{Bool, true, false}
+use mathlib.Core.Path.{_≡_, refl, ap, _∙_}
+use mathlib.Core.Bool.{true, false}
 use mathlib.Core.List.{List}
 use native.Mathlib.Omega.{arith}
 use lib.Dec.{eqb}
 use lib.ListN.{length}
 use borrow.Author.Tests.{eq-eqb, ne-eqb, eqb-true}
 use Rattle.lists.specs.Sums.{sumOf}
-use Rattle.lists.proofs.Tests.{and-left}
+use Rattle.lists.proofs.Tests.{and-left, same-test}
 use Rattle.links.specs.Links.{Link, linksOf}
 use Rattle.links.proofs.Total.{total-weights}
 use Rattle.qubo.specs.Formula.{Assignment}
@@ -31,16 +31,10 @@ penalty-is us vs ws s e h = omega (arith, e ∙ total-weights us vs ws h)
 
 -- ---- is_plan
 
--- two tests that hold together are the same
-both-ways : (a b : Bool) → (a ≡ true → b ≡ true) → (b ≡ true → a ≡ true) → a ≡ b
-both-ways true b f g = sym (f refl)
-both-ways false true f g = g refl
-both-ways false false f g = refl
-
 -- all groups are equally large exactly where the sum of squared differences is 0
 spread-test : (m : ℕ) (s : ℕ → ℕ) → eqb (spread m s) 0 ≡ equallyLarge m s
 spread-test m s =
-    both-ways (eqb (spread m s) 0) (equallyLarge m s)
+    same-test (eqb (spread m s) 0) (equallyLarge m s)
     (λ e. large-level m s .1 (spread-level m s .0 (eqb-true (spread m s) 0 e)))
     (λ e. eq-eqb (spread m s) 0 (spread-level m s .1 (large-level m s .0 e)))
 
@@ -67,7 +61,7 @@ module _ (N m : ℕ) (m1 : 1 ≤ m) (x : List ℕ) (a : Assignment (N * m) x) wh
   -- bits code a plan exactly where the bracket is 0
   codes-test : codesPlan N m x ≡ eqb (bracket N m (bitAt m x)) 0
   codes-test =
-      both-ways (codesPlan N m x) (eqb (bracket N m (bitAt m x)) 0)
+      same-test (codesPlan N m x) (eqb (bracket N m (bitAt m x)) 0)
       (λ e. eq-eqb (bracket N m (bitAt m x)) 0 (bracket-exactly N m m1 x a .1 (codes-exactly N m x .0 e)))
       (λ e. codes-exactly N m x .1 (bracket-exactly N m m1 x a .0 (eqb-true (bracket N m (bitAt m x)) 0 e)))
 

@@ -1,34 +1,20 @@
 -- Laws that the proofs of src/sizes.rt cite: squared differences added up group by group, and sizes counted meter by meter. Assumes nothing.
-use Prim.Native.Nat.{ℕ, zero, suc, pred, _+_, _-_, _*_, _≤_, _<_}
+use Prim.Native.Nat.{ℕ, zero, suc, pred, _+_, _*_, _≤_, _<_}
 use mathlib.Core.Path.{_≡_, refl, sym, ap₂, _∙_}
 use mathlib.Core.List.{List}
-use lib.ListN.{length, getD, set, length-set}
+use lib.ListN.{length, getD}
 use native.Mathlib.Omega.{arith}
 use native.Mathlib.Numerals.{add-one}
-use native.Mathlib.Nat.{mul-le-mul}
 use Rattle.lists.specs.Sums.{sumTo, same, gap, nth}
-use Rattle.lists.proofs.Sums.{same-le, sumTo-zero, sumTo-next, sumTo-bits, nth-suc}
-use Rattle.lists.proofs.Stores.{added-same}
+use Rattle.lists.proofs.Sums.{sumTo-zero, sumTo-next, sumTo-bits}
 use Rattle.qubo.specs.Formula.{Bits, Assignment}
 use Rattle.onehot.specs.Choices.{bitAt, misses}
+use Rattle.onehot.proofs.Counts.{count-le}
 use Rattle.onehot.proofs.Parts.{partOf, part-is, part-length, part-at, cut-small}
 use Rattle.groups.specs.Sizes.{spread}
 use Rattle.groups.specs.Formula.{sizeIn, bracket}
 use Rattle.groups.specs.Plans.{membersOf}
 use Rattle.groups.proofs.SizeLemma.{spread-eq}
-
--- ---- gap_squared: (a - b)²
-
-pub square-48 : (d : ℕ) → d ≤ 48 → d * d ≤ 2304
-square-48 d h = mul-le-mul h h
-
-pub square-up : (a b : ℕ) → a < b → (b - a) * (b - a) ≡ gap a b * gap a b
-unfolding gap
-square-up a b h = let e : (a - b) + (b - a) ≡ b - a = omega arith in rw e refl
-
-pub square-down : (a b : ℕ) → b ≤ a → (a - b) * (a - b) ≡ gap a b * gap a b
-unfolding gap
-square-down a b h = let e : (a - b) + (b - a) ≡ a - b = omega arith in rw e refl
 
 -- ---- spread_to: the squared differences of one size and those of the groups before g
 
@@ -123,43 +109,13 @@ module _ (N m : ℕ) (bits : List ℕ) (size : ℕ → ℕ) (are : (g : ℕ) →
   unfolding bracket
   bracket-is missed sum d e = ap₂ _+_ d (e ∙ spread-eq m size (sizeIn N (bitAt m bits)) are)
 
--- ---- gather_members: the first v bytes of a plan
-
--- in place g stands how many of them are g
-pub record MembersTo (plan : List ℕ) (v : ℕ) (sizes : List ℕ) : Type 0 where
-  pub size : length sizes ≡ 256
-  pub so-far : (g : ℕ) → getD sizes g 0 ≡ membersOf v plan g
-
-membersOf-le : (N : ℕ) (plan : List ℕ) (g : ℕ) → membersOf N plan g ≤ N
-unfolding membersOf
-membersOf-le N plan g = sumTo-bits N (λ v. same (nth plan v) g) (λ v. same-le (nth plan v) g)
-
-pub members-start : (plan sizes : List ℕ) → length sizes ≡ 256 → ((g : ℕ) → getD sizes g 0 ≡ 0) → MembersTo plan 0 sizes
-unfolding membersOf
-members-start plan sizes e z = record { size = e; so-far = λ g. z g ∙ sym (sumTo-zero _) }
-
-pub members-low : (plan : List ℕ) (v : ℕ) (sizes : List ℕ) → MembersTo plan v sizes → (g : ℕ) → getD sizes g 0 ≤ v
-members-low plan v sizes i g = omega (arith, i .so-far g, membersOf-le v plan g)
-
--- byte v, counted from 0, is one more of its group
-pub members-turn : (plan : List ℕ) (v : ℕ) (s t : List ℕ) → MembersTo plan v s → getD plan v 0 < 256 → t ≡ set s (getD plan v 0) (getD s (getD plan v 0) 0 + 1) → MembersTo plan (v + 1) t
-unfolding membersOf
-members-turn plan v s t i h e = record {
-  size = rw (e, length-set) (i .size);
-  so-far = λ g. omega (arith, added-same s t (getD plan v 0) 1 e (omega (arith, i .size)) g, i .so-far g, sumTo-next v (λ u. same (nth plan u) g), own g);
-}
-  where
-    own : (g : ℕ) → same (nth plan (suc v)) g ≡ same (getD plan v 0) g
-    own g = rw (nth-suc plan v) refl
-
-pub members-end : (plan : List ℕ) (v : ℕ) (sizes : List ℕ) → MembersTo plan v sizes → v ≡ length plan → (g : ℕ) → getD sizes g 0 ≡ membersOf (length plan) plan g
-members-end plan v sizes i e = rw e at (i .so-far)
-
 -- ---- members_spread: from an array of zeros
 
-module _ (N m : ℕ) (plan : List ℕ) (size : ℕ → ℕ) (are : (g : ℕ) → size g ≡ membersOf N plan g) where
+-- size g is what was counted for group g
+module _ (N m : ℕ) (plan : List ℕ) (size : ℕ → ℕ) (are : (g : ℕ) → size g ≡ sumTo N (λ v. same (nth plan v) g)) where
   pub members-small : N ≤ 48 → (g : ℕ) → 1 ≤ g → g ≤ m → size g ≤ 48
-  members-small h g p q = omega (arith, are g, membersOf-le N plan g)
+  members-small h g p q = omega (arith, are g, count-le N plan g)
 
   pub members-spread-is : (sum : ℕ) → sum ≡ spread m size → sum ≡ spread m (membersOf N plan)
+  unfolding membersOf
   members-spread-is sum e = e ∙ spread-eq m size (membersOf N plan) (λ g p q. are g)

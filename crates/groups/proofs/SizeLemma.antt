@@ -1,35 +1,21 @@
 -- The size lemma, over the sizes alone: the sum of squared differences is 0 exactly where all groups are equally large. What 02's S-1 asks of sizes changes here. Assumes nothing.
-use Prim.Native.Nat.{ℕ, zero, suc, pred, _+_, _*_, _≤_, _<_}
-use mathlib.Core.Path.{_≡_, refl, sym, ap, ap₂, _∙_}
+use Prim.Native.Nat.{ℕ, zero, suc, pred, _*_, _≤_, _<_}
+use mathlib.Core.Path.{_≡_, sym, ap, ap₂, _∙_}
 use mathlib.Core.Logic.{_↔_}
-use mathlib.Core.Bool.{Bool, true}
+use mathlib.Core.Bool.{true}
 use native.Mathlib.Omega.{arith}
 use native.Mathlib.Decide.{ℕ-discrete, decLt}
-use native.Mathlib.Nat.{one-le-mul}
 use lib.Dec.{eqb}
 use borrow.Author.Tests.{eq-eqb, eqb-true}
 use Rattle.lists.specs.Tests.{all, from}
 use Rattle.lists.specs.Sums.{sumTo, gap}
-use Rattle.lists.proofs.Tests.{all-head, all-tail, and-both}
-use Rattle.lists.proofs.Sums.{gap-zero, gap-same, sumTo-eq, sumTo-none, sumTo-const, sumTo-zero-at}
+use Rattle.lists.proofs.Tests.{all-from, from-all}
+use Rattle.lists.proofs.Sums.{gap-squared-same, gap-squared-zero, sumTo-eq, sumTo-none, sumTo-const, sumTo-zero-at}
 use Rattle.groups.specs.Sizes.{spread, equallyLarge}
 
 -- all groups are equally large, as a fact
 abbrev pub Level : ℕ → (ℕ → ℕ) → Type 0
 Level m s = (g h : ℕ) → 1 ≤ g → g ≤ m → 1 ≤ h → h ≤ m → s g ≡ s h
-
--- ---- one pair
-
-square-zero : (a : ℕ) → a * a ≡ 0 → a ≡ 0
-square-zero zero e = refl
-square-zero (suc a) e = let h : 1 ≤ suc a * suc a = one-le-mul (omega arith) (omega arith) in absurd (omega arith)
-
--- (a - b)² is 0 only where a and b are equal
-pair-zero : (a b : ℕ) → gap a b * gap a b ≡ 0 → a ≡ b
-pair-zero a b e = gap-zero a b (square-zero (gap a b) e)
-
-pair-same : (a b : ℕ) → a ≡ b → gap a b * gap a b ≡ 0
-pair-same a b e = rw (gap-same a b e) refl
 
 -- ---- all pairs
 
@@ -42,7 +28,7 @@ spread-level m s = (there, back)
 
     less : sumTo m row ≡ 0 → (g h : ℕ) → 1 ≤ g → g < h → h ≤ m → s g ≡ s h
     less e g zero a b c = absurd (omega arith)
-    less e g (suc h) a b c = pair-zero (s g) (s (suc h)) (sumTo-zero-at h (λ g. gap (s g) (s (suc h)) * gap (s g) (s (suc h))) (sumTo-zero-at m row e (suc h) (omega arith) c) g a (omega arith))
+    less e g (suc h) a b c = gap-squared-zero (s g) (s (suc h)) (sumTo-zero-at h (λ g. gap (s g) (s (suc h)) * gap (s g) (s (suc h))) (sumTo-zero-at m row e (suc h) (omega arith) c) g a (omega arith))
 
     there : sumTo m row ≡ 0 → Level m s
     there e g h a b c d =
@@ -52,23 +38,9 @@ spread-level m s = (there, back)
         ]
 
     back : Level m s → sumTo m row ≡ 0
-    back l = sumTo-none m row (λ h a b. sumTo-none (pred h) (λ g. gap (s g) (s h) * gap (s g) (s h)) (λ g c d. pair-same (s g) (s h) (l g h c (omega arith) a b)))
+    back l = sumTo-none m row (λ h a b. sumTo-none (pred h) (λ g. gap (s g) (s h) * gap (s g) (s h)) (λ g c d. gap-squared-same (s g) (s h) (l g h c (omega arith) a b)))
 
 -- ---- the test
-
-all-from : (p : ℕ → Bool) (a n g : ℕ) → all p (from a n) ≡ true → a ≤ g → g < a + n → p g ≡ true
-unfolding from
-all-from p a zero g e l h = absurd (omega arith)
-all-from p a (suc n) g e l h =
-    elim (ℕ-discrete a g) [
-      | yes q ↦ ap p (sym q) ∙ all-head p a (from (suc a) n) e
-      | no q ↦ all-from p (suc a) n g (all-tail p a (from (suc a) n) e) (omega arith) (omega arith)
-    ]
-
-from-all : (p : ℕ → Bool) (a n : ℕ) → ((g : ℕ) → a ≤ g → g < a + n → p g ≡ true) → all p (from a n) ≡ true
-unfolding from all
-from-all p a zero h = refl
-from-all p a (suc n) h = and-both (p a) _ (h a (omega arith) (omega arith)) (from-all p (suc a) n (λ g l b. h g (omega arith) (omega arith)))
 
 pub large-level : (m : ℕ) (s : ℕ → ℕ) → equallyLarge m s ≡ true ↔ Level m s
 unfolding equallyLarge

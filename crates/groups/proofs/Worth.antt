@@ -90,7 +90,7 @@ constant-is A N m ls =
 
 -- ---- as the code adds it up
 
-pub energy-small : (A B C : ℕ) → A ≤ 2 ^ 32 → B ≤ 563760 → C ≤ 268431360 → A * B + C < 2 ^ 63
+pub energy-small : (A B C : ℕ) → A ≤ 2 ^ 32 → B ≤ 658992 → C ≤ 268431360 → A * B + C < 2 ^ 63
 energy-small A B C a b c = omega (arith, mul-le-mul a b)
 
 pub energy-is : (A N m : ℕ) (ls : List Link) (x : List ℕ) (B C : ℕ) → Bits x → B ≡ bracket N m (bitAt m x) → C ≡ cuttingOf m ls (bitAt m x) → pos (A * B + C) ≡ value (formula A N m ls) x

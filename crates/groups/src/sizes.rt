@@ -9,17 +9,6 @@ ghost use Rattle.groups.specs.Sizes.{spread};
 ghost use Rattle.groups.specs.Formula.{sizeIn, bracket};
 ghost use Rattle.groups.specs.Plans.{membersOf};
 
-// (a - b)².
-fn gap_squared(a: u64, b: u64) -> u64
-    requires { ⌜ (a ≤ 48) × (b ≤ 48) ⌝ }
-    ensures { λ r. ⌜ (r ≡ gap a b * gap a b) × (r ≤ 2304) ⌝ }
-{
-    if a < b {
-        return (b - a) * (b - a);
-    }
-    (a - b) * (a - b)
-}
-
 // The sum of the squared differences of the size of group h and those of the groups before it.
 fn spread_to(sizes: &[u64], h: usize) -> u64
     requires { ⌜ (1 ≤ h) × (h ≤ 16) × (h < length (now sizes)) × ((g : ℕ) → 1 ≤ g → g ≤ h → getD (now sizes) g 0 ≤ 48) ⌝ }
@@ -29,7 +18,7 @@ fn spread_to(sizes: &[u64], h: usize) -> u64
     let mut sum: u64 = 0;
     let mut g: usize = 1;
     while g < h {
-        sum += gap_squared(sizes[g], last);
+        sum += onehot::gap_squared(sizes[g], last);
         g += 1;
     }
     sum
@@ -66,25 +55,12 @@ fn gather_sizes(sizes: &mut [u64], bits: &[u8], meters: usize, m: usize)
 // What stands in the bracket: the sum over meters of (1 - bits set)² plus the sum over pairs of groups of (size difference)².
 pub fn bracket_of(bits: &[u8], meters: usize, m: usize) -> u64
     requires { ⌜ (meters ≤ 48) × (m ≤ 16) × Assignment (meters * m) (now bits) ⌝ }
-    ensures { λ r. ⌜ (r ≡ bracket meters m (bitAt m (now (bits .entry)))) × (r ≤ 563760) ⌝ }
+    ensures { λ r. ⌜ (r ≡ bracket meters m (bitAt m (now (bits .entry)))) × (r ≤ 658992) ⌝ }
 {
     let mut sizes: [u64; 256] = [0; 256];
     gather_sizes(&mut sizes[..256], bits, meters, m);
     let missed = onehot::misses_of(bits, meters, m);
     missed + spread_of(&sizes[..256], m)
-}
-
-// The sizes of the groups in a plan, meter by meter.
-fn gather_members(sizes: &mut [u64], plan: &[u8])
-    requires { ⌜ (length (now plan) ≤ 48) × (length (now sizes) ≡ 256) × ((g : ℕ) → getD (now sizes) g 0 ≡ 0) ⌝ }
-    ensures { λ _. ⌜ (length (now (sizes .exit)) ≡ 256) × ((g : ℕ) → getD (now (sizes .exit)) g 0 ≡ membersOf (length (now (plan .entry))) (now (plan .entry)) g) ⌝ }
-{
-    let mut v: usize = 0;
-    while v < plan.len() {
-        let g = plan[v] as usize;
-        sizes[g] = sizes[g] + 1;
-        v += 1;
-    }
 }
 
 // The sum over pairs of groups of (size difference)² in a plan: 0 exactly where all groups are equally large.
@@ -93,6 +69,6 @@ pub fn members_spread(plan: &[u8], m: usize) -> u64
     ensures { λ r. ⌜ r ≡ spread m (membersOf (length (now (plan .entry))) (now (plan .entry))) ⌝ }
 {
     let mut sizes: [u64; 256] = [0; 256];
-    gather_members(&mut sizes[..256], plan);
+    onehot::count_choices(&mut sizes[..256], plan);
     spread_of(&sizes[..256], m)
 }

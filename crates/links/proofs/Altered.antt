@@ -2,15 +2,16 @@
 use Prim.Native.Nat.{ℕ, suc, _+_, _≤_}
 use mathlib.Core.Bool.{Bool, true, false, _&&_, _||_, not, cond, and-false, or-true, true≢false, false≢true}
 use mathlib.Core.Path.{_≡_, refl, sym, ap, _∙_, subst, subst₂}
-use mathlib.Core.List.{List, [], _∷_}
+use mathlib.Core.List.{List, [], _∷_, List·Memᴰ}
 use lib.ListN.{length}
 use lib.Dec.{eqb}
 use borrow.Author.Tests.{le-leb, lt-ltb, eq-eqb, leb-true, ltb-true, eqb-true}
 use native.Mathlib.Omega.{arith}
 use Rattle.lists.specs.Tests.{every, all, any}
+use Rattle.lists.specs.Sums.{sumOf}
 use Rattle.links.specs.Links.{Link, linkOk, hasEnds, before, ascendingFrom, ascending, present, weightOf, timesOf, insert, delete}
 use Rattle.links.specs.Survey.{LinkOf}
-use Rattle.lists.proofs.Tests.{and-left, and-right, and-both, or-left, or-right, every-at, all-head, all-tail, all-cons, same-test}
+use Rattle.lists.proofs.Tests.{and-left, and-right, and-both, or-left, or-right, every-at, all-head, all-tail, all-cons, all-member, same-test}
 use Rattle.links.proofs.Order.{Before, less, before-yes, before-true, before-trans, before-irrefl, before-else}
 
 -- ---- one link
@@ -30,6 +31,10 @@ link-of N l e = record {
 pub link-ok : (N : ℕ) (l : Link) → LinkOf N l → linkOk N l ≡ true
 unfolding linkOk every
 link-ok N l h = rw (le-leb 1 (l .u) (h .u-low), lt-ltb (l .u) (l .v) (h .ordered), le-leb (l .v) N (h .v-high), le-leb 1 (l .weight) (h .weight-low), le-leb (l .weight) 65535 (h .weight-high))
+
+-- the test of all links gives the facts of each
+pub link-in : (N : ℕ) (ls : List Link) → all (linkOk N) ls ≡ true → (l : Link) → List·Memᴰ l ls → LinkOf N l
+link-in N ls o l i = link-of N l (all-member (linkOk N) ls o l i)
 
 -- a link that has the ends a and b ends at a
 pub ends-u : (a b : ℕ) (l : Link) → hasEnds a b l ≡ true → l .u ≡ a
@@ -225,6 +230,20 @@ ascending-once (x ∷ xs) a b e = go (hasEnds a b x) refl (ascending-once xs a b
     go : (t : Bool) → hasEnds a b x ≡ t → timesOf a b xs ≤ 1 → cond t 1 0 + timesOf a b xs ≤ 1
     go true q f = omega (arith, absent-times a b xs (head-only a b x xs e q))
     go false q f = omega arith
+
+-- the links with these ends, as a sum
+pub times-sum : (a b : ℕ) (ls : List Link) → timesOf a b ls ≡ sumOf ls (λ l. cond (hasEnds a b l) 1 0)
+unfolding timesOf sumOf
+times-sum a b [] = refl
+times-sum a b (l ∷ ls) = ap (λ (t : ℕ). cond (hasEnds a b l) 1 0 + t) (times-sum a b ls)
+
+-- no link has its higher end first
+pub times-falling : (N : ℕ) (ls : List Link) → all (linkOk N) ls ≡ true → (a b : ℕ) → b ≤ a → timesOf a b ls ≡ 0
+unfolding timesOf
+times-falling N [] o a b h = refl
+times-falling N (l ∷ ls) o a b h =
+    let f = link-of N l (all-head (linkOk N) l ls o) in
+    rw (ends-no a b l (λ p q. omega (arith, f .ordered))) (omega (arith, times-falling N ls (all-tail (linkOk N) l ls o) a b h))
 
 -- ---- what a list altered holds
 

@@ -1,18 +1,18 @@
 -- A walk over three arrays side by side, link by link: the facts of each link, and sums over the links. Loops of the kinds cite these. Assumes nothing.
 use Prim.Native.Nat.{ℕ, suc, _+_, _-_, _*_, _≤_, _<_}
-use mathlib.Core.Path.{_≡_, refl, ap, ap₂, _∙_}
+use mathlib.Core.Path.{_≡_, refl, ap, _∙_}
 use mathlib.Core.Bool.{true}
-use mathlib.Core.List.{List, [], _∷_}
+use mathlib.Core.List.{List}
 use lib.ListN.{length, getD}
 use native.Mathlib.Omega.{arith}
 use native.Mathlib.Numerals.{add-one}
 use native.Mathlib.Nat.{sub-zero}
 use Rattle.lists.specs.Tests.{all}
 use Rattle.lists.specs.Sums.{sumOf}
-use Rattle.lists.proofs.Tests.{all-head, all-tail}
+use Rattle.lists.proofs.Members.{sumOf-eq, sumOf-bound}
 use Rattle.links.specs.Links.{Link, linkOk, linkIn, linksFrom, linksOf}
 use Rattle.links.specs.Survey.{LinkOf, Arrays}
-use Rattle.links.proofs.Altered.{link-of}
+use Rattle.links.proofs.Altered.{link-in}
 use Rattle.links.proofs.Arrays.{arrays-at, length-linksOf}
 
 -- ---- the link at an index
@@ -82,12 +82,8 @@ module _ (us vs ws : List ℕ) (f : Link → ℕ) where
 
 -- equal for links of N meters
 pub sum-equal : (N : ℕ) (ls : List Link) → all (linkOk N) ls ≡ true → (f g : Link → ℕ) → ((l : Link) → LinkOf N l → f l ≡ g l) → sumOf ls f ≡ sumOf ls g
-unfolding sumOf
-sum-equal N [] o f g h = refl
-sum-equal N (l ∷ ls) o f g h = ap₂ _+_ (h l (link-of N l (all-head (linkOk N) l ls o))) (sum-equal N ls (all-tail (linkOk N) l ls o) f g h)
+sum-equal N ls o f g h = sumOf-eq ls f g (λ l i. h l (link-in N ls o l i))
 
 -- each summand is at most b
 pub sum-bounded : (N : ℕ) (ls : List Link) → all (linkOk N) ls ≡ true → (f : Link → ℕ) (b : ℕ) → ((l : Link) → LinkOf N l → f l ≤ b) → sumOf ls f ≤ length ls * b
-unfolding sumOf
-sum-bounded N [] o f b h = omega arith
-sum-bounded N (l ∷ ls) o f b h = omega (arith, h l (link-of N l (all-head (linkOk N) l ls o)), sum-bounded N ls (all-tail (linkOk N) l ls o) f b h)
+sum-bounded N ls o f b h = sumOf-bound ls f b (λ l i. h l (link-in N ls o l i))

@@ -1,3 +1,4 @@
 pub mod Tests
 pub mod Sums
+pub mod Members
 pub mod Stores

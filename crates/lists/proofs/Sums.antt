@@ -8,7 +8,7 @@ use lib.Seq.{getD-append-seam}
 use native.Mathlib.Omega.{arith}
 use native.Mathlib.Decide.{ℕ-discrete, decLe}
 use native.Mathlib.Numerals.{add-one}
-use native.Mathlib.Nat.{le-refl, le-trans, le-of-eq, mul-le-mul-left, mul-add, mul-one, mul-zero, add-le-add, add-zero}
+use native.Mathlib.Nat.{le-refl, le-trans, le-of-eq, mul-le-mul, mul-le-mul-left, mul-add, mul-one, mul-zero, one-mul, zero-mul, one-le-mul, add-le-add, add-zero}
 use borrow.Author.Tests.{eq-eqb, ne-eqb, le-ltb, lt-ltb}
 use Rattle.lists.specs.Sums.{sumTo, sumOf, greatest, leastAt, lowest, same, differ, gap, nth}
 
@@ -35,6 +35,42 @@ same-sym a b =
       | no e ↦ same-no a b e ∙ sym (same-no b a (λ d. e (sym d)))
     ]
 
+-- equal where both pairs are equal or both are not
+pub same-iff : (a b c d : ℕ) → (a ≡ b → c ≡ d) → (c ≡ d → a ≡ b) → same a b ≡ same c d
+same-iff a b c d f g =
+    elim (ℕ-discrete a b) [
+      | yes e ↦ same-yes a b e ∙ sym (same-yes c d (f e))
+      | no e ↦ same-no a b e ∙ sym (same-no c d (λ q. e (g q)))
+    ]
+
+-- the other factor where a and b are equal
+pub same-times : (a b x : ℕ) → a ≡ b → same a b * x ≡ x
+same-times a b x e = rw (same-yes a b e) (one-mul x)
+
+-- nothing where they are not
+pub same-none : (a b x : ℕ) → (a ≡ b → ⊥) → same a b * x ≡ 0
+same-none a b x e = rw (same-no a b e) (zero-mul x)
+
+-- the other factor counts only where a and b are equal
+pub on-same : (a b x y : ℕ) → (a ≡ b → x ≡ y) → same a b * x ≡ same a b * y
+on-same a b x y h =
+    elim (ℕ-discrete a b) [
+      | yes e ↦ ap (λ (t : ℕ). same a b * t) (h e)
+      | no e ↦ same-none a b x e ∙ sym (same-none a b y e)
+    ]
+
+-- where x is q, which is r, what is said of x is said of r
+pub same-turn : (f : ℕ → ℕ) (q r x : ℕ) → q ≡ r → same q x * f x ≡ same x r * f r
+same-turn f q r x e =
+    elim (ℕ-discrete x r) [
+      | yes g ↦ rw (same-yes x r g, same-yes q x (e ∙ sym g)) (ap (λ (y : ℕ). 1 * f y) g)
+      | no g ↦ same-none q x (f x) (λ h. g (sym h ∙ e)) ∙ sym (same-none x r (f r) g)
+    ]
+
+-- a product of two that are equal to what they are compared with
+pub same-both : (a b c d : ℕ) → a ≡ b → c ≡ d → 1 ≤ same a b * same c d
+same-both a b c d e f = one-le-mul (omega (arith, same-yes a b e)) (omega (arith, same-yes c d f))
+
 -- ---- differ
 
 pub differ-yes : (a b : ℕ) → (a ≡ b → ⊥) → differ a b ≡ 1
@@ -57,6 +93,23 @@ gap-zero a b e = omega arith
 pub gap-same : (a b : ℕ) → a ≡ b → gap a b ≡ 0
 unfolding gap
 gap-same a b e = omega arith
+
+-- its square: of numbers up to m
+pub gap-small : (a b m : ℕ) → a ≤ m → b ≤ m → gap a b * gap a b ≤ m * m
+unfolding gap
+gap-small a b m h k = mul-le-mul {n₁ = (a - b) + (b - a)} {m₁ = (a - b) + (b - a)} {n₂ = m} {m₂ = m} (omega arith) (omega arith)
+
+-- 0 between equals
+pub gap-squared-same : (a b : ℕ) → a ≡ b → gap a b * gap a b ≡ 0
+gap-squared-same a b e = rw (gap-same a b e) refl
+
+-- and only between equals
+pub gap-squared-zero : (a b : ℕ) → gap a b * gap a b ≡ 0 → a ≡ b
+gap-squared-zero a b e =
+    elim (ℕ-discrete (gap a b) 0) [
+      | yes z ↦ gap-zero a b z
+      | no n ↦ let h : 1 ≤ gap a b * gap a b = one-le-mul (omega arith) (omega arith) in absurd (omega arith)
+    ]
 
 -- ---- sumTo
 
@@ -116,6 +169,20 @@ sumTo-hot n f c i a b d e s h =
     elim (ℕ-discrete c i) [
       | yes q ↦ rw (same-yes c i q, ← q) (omega (arith, sumTo-term n f c a b))
       | no q ↦ rw (same-no c i q) (omega (arith, sumTo-two n f c i a b d e q))
+    ]
+
+-- the term at c alone
+pub sumTo-at : (n c : ℕ) (f : ℕ → ℕ) → 1 ≤ c → c ≤ n → sumTo n (λ i. same c i * f i) ≡ f c
+sumTo-at n c f a b = sumTo-single n (λ i. same c i * f i) c a b (λ i ne. same-none c i (f i) (λ e. ne (sym e))) ∙ same-times c c (f c) refl
+
+-- a sum that is not 0 has a term that is not
+pub sumTo-some : (n : ℕ) (f : ℕ → ℕ) → 1 ≤ sumTo n f → (i : ℕ) × (1 ≤ i) × (i ≤ n) × (1 ≤ f i)
+unfolding sumTo
+sumTo-some zero f h = absurd (omega arith)
+sumTo-some (suc k) f h =
+    elim (decLe 1 (f (suc k))) [
+      | yes e ↦ (suc k, omega arith, omega arith, e)
+      | no e ↦ let t = sumTo-some k f (omega arith) in (t .0, t .1, omega (arith, t .2), t .3)
     ]
 
 -- ---- sums of sums
@@ -180,6 +247,12 @@ sumTo-bound (suc k) f b h = omega (arith, sumTo-bound k f b (λ i p q. h i p (om
 pub times-bit : (w b : ℕ) → b ≤ 1 → w * b ≤ w
 times-bit w b h = le-trans (mul-le-mul-left w h) (le-of-eq (mul-one w))
 
+-- a product that is not 0 has no factor 0
+pub times-factors : (x y : ℕ) → 1 ≤ x * y → (1 ≤ x) × (1 ≤ y)
+times-factors zero y h = absurd (omega (arith, zero-mul y))
+times-factors (suc x) zero h = absurd (omega (arith, mul-zero (suc x)))
+times-factors (suc x) (suc y) h = omega arith
+
 -- ---- the greatest
 
 pub greatest-term : (n : ℕ) (f : ℕ → ℕ) (m : ℕ) → 1 ≤ m → m ≤ n → f m ≤ greatest n f
@@ -215,12 +288,6 @@ pub sumOf-times : {A : Type 0} (xs : List A) (w : ℕ) (f : A → ℕ) → sumOf
 unfolding sumOf
 sumOf-times [] w f = sym (mul-zero w)
 sumOf-times (x ∷ xs) w f = ap (λ t. w * f x + t) (sumOf-times xs w f) ∙ sym (mul-add w (f x) (sumOf xs f))
-
--- each summand is at most b
-pub sumOf-bound : {A : Type 0} (xs : List A) (f : A → ℕ) (b : ℕ) → ((x : A) → f x ≤ b) → sumOf xs f ≤ length xs * b
-unfolding sumOf
-sumOf-bound [] f b h = omega arith
-sumOf-bound (x ∷ xs) f b h = omega (arith, h x, sumOf-bound xs f b h)
 
 -- ---- the lowest
 

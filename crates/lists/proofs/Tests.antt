@@ -1,9 +1,11 @@
 -- Laws of tests, alone and over lists. Assumes nothing.
-use Prim.Native.Nat.{ℕ, zero, suc}
+use Prim.Native.Nat.{ℕ, zero, suc, _+_, _≤_, _<_}
 use mathlib.Core.Bool.{Bool, true, false, _&&_, _||_, true≢false, false≢true}
-use mathlib.Core.Path.{_≡_, refl, sym, ap, ap₂, subst}
-use mathlib.Core.List.{List, [], _∷_, _++_}
+use mathlib.Core.Path.{_≡_, refl, sym, ap, ap₂, _∙_, subst}
+use mathlib.Core.List.{List, [], _∷_, _++_, List·Memᴰ, List·Memᴰ·head, List·Memᴰ·tail}
 use lib.ListN.{length, getD}
+use native.Mathlib.Omega.{arith}
+use native.Mathlib.Decide.{ℕ-discrete}
 use lib.Dec.{eqb}
 use borrow.Author.Tests.{eqb-true, eqb-false, eq-eqb}
 use Rattle.lists.specs.Tests.{every, all, alike, from}
@@ -77,10 +79,47 @@ module _ {A : Type 0} (p : A → Bool) where
   all-append [] ys e f = f
   all-append (x ∷ xs) ys e f = and-both (p x) _ (and-left (p x) _ e) (all-append xs ys (and-right (p x) _ e) f)
 
+  -- what holds of all holds of each member
+  pub all-member : (xs : List A) → all p xs ≡ true → (x : A) → List·Memᴰ x xs → p x ≡ true
+  all-member [] e x i = elim i [ ]
+  all-member (y ∷ ys) e x (List·Memᴰ·head q) = ap p q ∙ all-head y ys e
+  all-member (y ∷ ys) e x (List·Memᴰ·tail i) = all-member ys (all-tail y ys e) x i
+
+-- ---- over the n numbers from a on
+
 pub length-from : (a n : ℕ) → length (from a n) ≡ n
 unfolding from
 length-from a zero = refl
 length-from a (suc n) = ap suc (length-from (suc a) n)
+
+module _ (p : ℕ → Bool) where
+  -- what holds of all of them holds of each
+  pub all-from : (a n v : ℕ) → all p (from a n) ≡ true → a ≤ v → v < a + n → p v ≡ true
+  unfolding from
+  all-from a zero v e l h = absurd (omega arith)
+  all-from a (suc n) v e l h =
+      elim (ℕ-discrete a v) [
+        | yes q ↦ ap p (sym q) ∙ all-head p a (from (suc a) n) e
+        | no q ↦ all-from (suc a) n v (all-tail p a (from (suc a) n) e) (omega arith) (omega arith)
+      ]
+
+  -- what holds of each holds of all
+  pub from-all : (a n : ℕ) → ((v : ℕ) → a ≤ v → v < a + n → p v ≡ true) → all p (from a n) ≡ true
+  unfolding from all
+  from-all a zero h = refl
+  from-all a (suc n) h = all-cons p a (from (suc a) n) (h a (omega arith) (omega arith)) (from-all (suc a) n (λ v l k. h v (omega arith) (omega arith)))
+
+  -- what fails for one does not hold of all
+  pub from-not : (a n v : ℕ) → a ≤ v → v < a + n → p v ≡ false → all p (from a n) ≡ false
+  from-not a n v l h e = go (all p (from a n)) refl
+    where
+      go : (t : Bool) → all p (from a n) ≡ t → t ≡ false
+      go true q = absurd (true≢false (sym (all-from a n v q l h) ∙ e))
+      go false q = refl
+
+-- what holds of 1..k and of the next number holds of 1..k + 1
+pub each-next : (P : ℕ → Type 0) (k : ℕ) → ((v : ℕ) → 1 ≤ v → v ≤ k → P v) → P (k + 1) → (v : ℕ) → 1 ≤ v → v ≤ k + 1 → P v
+each-next P k f g v a b = elim (ℕ-discrete v (k + 1)) [ yes e ↦ subst P (sym e) g | no e ↦ f v a (omega arith) ]
 
 -- ---- lists with the same entries are equal
 

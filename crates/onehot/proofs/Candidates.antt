@@ -1,16 +1,15 @@
 -- The choices that bits would code: the lowest one set at each meter. With exactly one set at each meter the bits are their code. Assumes nothing.
 use Prim.Native.Nat.{ℕ, zero, suc, _+_, _*_, _≤_, _<_}
-use mathlib.Core.Path.{_≡_, refl, sym, ap, _∙_}
-use mathlib.Core.List.{List, [], _∷_, _++_}
+use mathlib.Core.Path.{_≡_, refl, sym, _∙_}
+use mathlib.Core.List.{List, []}
 use lib.ListN.{length, getD, set, take}
-use lib.Seq.{take-suc-set, take-all, ext-getD}
+use lib.Seq.{ext-getD}
 use native.Mathlib.Omega.{arith}
-use native.Mathlib.Numerals.{add-one}
 use Rattle.lists.specs.Sums.{lowest, same, nth}
 use Rattle.lists.proofs.Sums.{same-one, lowest-ok, lowest-eq, sumTo-same, nth-suc}
 use Rattle.qubo.specs.Formula.{Assignment}
 use Rattle.onehot.specs.Choices.{bitAt, setAt, code, candidate}
-use Rattle.onehot.proofs.Codes.{each-length, each-at, Choices, bit-code, Hot, hot-code}
+use Rattle.onehot.proofs.Codes.{each-length, each-at, filled-next, filled-end, Choices, bit-code, Hot, hot-code}
 
 pub candidate-length : (N n : ℕ) (x : List ℕ) → length (candidate N n x) ≡ N
 unfolding candidate
@@ -61,12 +60,10 @@ module _ (n : ℕ) (x : List ℕ) where
   read-start = refl
 
   -- one meter more
-  next-is : (v : ℕ) (p : List ℕ) (c : ℕ) → p ≡ candidate v n x → c ≡ lowest n (bitAt n x (v + 1)) → p ++ (c ∷ []) ≡ candidate (v + 1) n x
-  unfolding candidate
-  next-is v p c e d = rw (d, e, add-one v) refl
-
   pub read-next : (p : List ℕ) (v c : ℕ) → v < length p → take v p ≡ candidate v n x → c ≡ lowest n (bitAt n x (v + 1)) → take (v + 1) (set p v c) ≡ candidate (v + 1) n x
-  read-next p v c h e d = rw add-one (take-suc-set p v c h) ∙ next-is v (take v p) c e d
+  unfolding candidate
+  read-next p v c h e d = filled-next (λ v. lowest n (bitAt n x v)) p v c h e d
 
   pub read-end : (N : ℕ) (p : List ℕ) (v : ℕ) → v ≡ N → length p ≡ N → take v p ≡ candidate v n x → p ≡ candidate N n x
-  read-end N p v d l e = sym (take-all v p (omega arith)) ∙ e ∙ ap (λ (t : ℕ). candidate t n x) d
+  unfolding candidate
+  read-end N p v d l e = filled-end (λ v. lowest n (bitAt n x v)) N p v d l e

@@ -1,21 +1,22 @@
 -- Codes of choices, and back: an assignment with exactly one bit set at each meter is the code of its choices. Assumes nothing.
 use Prim.Native.Nat.{ℕ, zero, suc, _+_, _*_, _/_, _%_, _≤_, _<_}
-use mathlib.Core.Path.{_≡_, refl, sym, ap, _∙_}
+use mathlib.Core.Path.{_≡_, refl, sym, ap, ap₂, _∙_}
 use mathlib.Core.Logic.{_↔_}
 use mathlib.Core.Bool.{true, _&&_}
 use mathlib.Core.List.{List, [], _∷_, _++_}
-use lib.ListN.{length, getD, length-append, List·getD-append}
-use lib.Seq.{getD-at, getD-append-add, ext-getD}
+use lib.ListN.{length, getD, set, take, length-append, List·getD-append}
+use lib.Seq.{getD-at, getD-append-add, take-suc-set, take-all, ext-getD}
 use lib.Dec.{eqb, leb}
 use native.Mathlib.Omega.{arith}
 use native.Mathlib.Decide.{ℕ-discrete}
+use native.Mathlib.Numerals.{add-one}
 use native.Mathlib.Nat.{zero-mul, zero-add, suc-mul, one-le-mul, mod-lt, div-add-mod', div-lt-iff-lt-mul}
 use borrow.Author.Tests.{eq-eqb, le-leb, eqb-true, leb-true}
 use Rattle.lists.specs.Tests.{all}
 use Rattle.lists.specs.Sums.{same, nth}
 use Rattle.lists.proofs.Tests.{and-left, and-right, and-both, all-head, all-tail}
 use Rattle.lists.proofs.Sums.{same-yes, same-le, same-one, sumTo-eq, sumTo-none, sumTo-same, sumTo-hot, sumTo-zero-at}
-use Rattle.qubo.specs.Formula.{Assignment}
+use Rattle.qubo.specs.Formula.{Bits, Assignment}
 use Rattle.qubo.specs.Terms.{each}
 use Rattle.onehot.specs.Choices.{bitAt, setAt, missSquared, misses, areChoices, code}
 
@@ -33,10 +34,20 @@ each-at (suc k) f j h =
       | no e ↦ List·getD-append (each k f) (f (suc k) ∷ []) 0 j (omega (arith, each-length k f)) ∙ each-at k f j (omega arith)
     ]
 
-small-append : (s t : List ℕ) → ((k : ℕ) → getD s k 0 ≤ 1) → ((k : ℕ) → getD t k 0 ≤ 1) → (k : ℕ) → getD (s ++ t) k 0 ≤ 1
-small-append [] t hs ht k = ht k
-small-append (a ∷ s) t hs ht zero = hs zero
-small-append (a ∷ s) t hs ht (suc k) = small-append s t (λ j. hs (suc j)) ht k
+module _ (f : ℕ → ℕ) where
+  -- filled in turn: one entry more
+  pub filled-next : (l : List ℕ) (v c : ℕ) → v < length l → take v l ≡ each v f → c ≡ f (v + 1) → take (v + 1) (set l v c) ≡ each (v + 1) f
+  filled-next l v c h e d = rw add-one (take-suc-set l v c h ∙ ap₂ (λ (s : List ℕ) (t : ℕ). s ++ (t ∷ [])) e (rw (← add-one v) d))
+
+  -- all of them
+  pub filled-end : (N : ℕ) (l : List ℕ) (v : ℕ) → v ≡ N → length l ≡ N → take v l ≡ each v f → l ≡ each N f
+  filled-end N l v d s e = sym (take-all v l (omega arith)) ∙ e ∙ ap (λ (t : ℕ). each t f) d
+
+-- bits behind bits are bits
+pub bits-append : (s t : List ℕ) → Bits s → Bits t → Bits (s ++ t)
+bits-append [] t hs ht k = ht k
+bits-append (a ∷ s) t hs ht zero = hs zero
+bits-append (a ∷ s) t hs ht (suc k) = bits-append s t (λ j. hs (suc j)) ht k
 
 small-one : (a : ℕ) → a ≤ 1 → (k : ℕ) → getD (a ∷ []) k 0 ≤ 1
 small-one a h zero = h
@@ -47,7 +58,7 @@ small-nil k = omega arith
 
 small-each : (n : ℕ) (f : ℕ → ℕ) → ((i : ℕ) → f i ≤ 1) → (k : ℕ) → getD (each n f) k 0 ≤ 1
 small-each zero f h = small-nil
-small-each (suc m) f h = small-append (each m f) (f (suc m) ∷ []) (small-each m f h) (small-one (f (suc m)) (h (suc m)))
+small-each (suc m) f h = bits-append (each m f) (f (suc m) ∷ []) (small-each m f h) (small-one (f (suc m)) (h (suc m)))
 
 -- ---- the bits of a code
 
@@ -59,7 +70,7 @@ code-length n (c ∷ p) = rw (length-append, suc-mul) (omega (arith, code-length
 pub code-small : (n : ℕ) (p : List ℕ) (k : ℕ) → getD (code n p) k 0 ≤ 1
 unfolding code
 code-small n [] = small-nil
-code-small n (c ∷ p) = small-append (each n (same c)) (code n p) (small-each n (same c) (same-le c)) (code-small n p)
+code-small n (c ∷ p) = bits-append (each n (same c)) (code n p) (small-each n (same c) (same-le c)) (code-small n p)
 
 pub code-at : (n : ℕ) (p : List ℕ) (k j : ℕ) → k < length p → j < n → getD (code n p) (k * n + j) 0 ≡ same (getD p k 0) (suc j)
 unfolding code

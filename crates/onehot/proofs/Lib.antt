@@ -8,3 +8,4 @@ pub mod Adding
 pub mod Candidates
 pub mod LinkTerms
 pub mod LinkSums
+pub mod Counts

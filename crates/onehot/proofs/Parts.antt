@@ -36,7 +36,8 @@ part-within n v N h = rw (← suc-mul v n) (mul-le-mul-right n h)
 
 -- ---- what a part holds
 
-small-take : (n : ℕ) (l : List ℕ) → Bits l → Bits (take n l)
+-- bits
+pub small-take : (n : ℕ) (l : List ℕ) → Bits l → Bits (take n l)
 small-take zero l h k = omega arith
 small-take (suc n) [] h k = omega arith
 small-take (suc n) (a ∷ l) h zero = h zero

@@ -9,7 +9,7 @@ use native.Mathlib.Omega.{arith}
 use native.Mathlib.Decide.{ℕ-discrete, decLt}
 use native.Mathlib.Numerals.{add-one}
 use native.Mathlib.Nat.{le-refl, mul-le-mul, mul-zero, mod-lt, div-add-mod', div-lt-iff-lt-mul}
-use Rattle.lists.specs.Sums.{sumTo, same, differ, nth}
+use Rattle.lists.specs.Sums.{sumTo, same, differ, gap, nth}
 use Rattle.lists.proofs.Sums.{sumTo-next, sumTo-eq, same-yes, same-no, differ-yes, differ-no, nth-index, nth-suc}
 use Rattle.qubo.specs.Formula.{Bits}
 use Rattle.onehot.specs.Choices.{bitAt, setAt, missSquared, misses, areChoices, code}
@@ -88,8 +88,21 @@ unfolding missSquared
 miss-some zero h = absurd (h refl)
 miss-some (suc k) h = rw (one-less k) refl
 
-pub square-15 : (j : ℕ) → j ≤ 15 → j * j ≤ 225
-square-15 j h = mul-le-mul h h
+pub square-47 : (j : ℕ) → j ≤ 47 → j * j ≤ 2209
+square-47 j h = mul-le-mul h h
+
+-- (a - b)², whichever is greater
+pub square-up : (a b : ℕ) → a < b → (b - a) * (b - a) ≡ gap a b * gap a b
+unfolding gap
+square-up a b h = let e : (a - b) + (b - a) ≡ b - a = omega arith in rw e refl
+
+pub square-down : (a b : ℕ) → b ≤ a → (a - b) * (a - b) ≡ gap a b * gap a b
+unfolding gap
+square-down a b h = let e : (a - b) + (b - a) ≡ a - b = omega arith in rw e refl
+
+-- of numbers of 16 bits
+pub square-fits : (d : ℕ) → d ≤ 65535 → d * d ≤ 4294836225
+square-fits d h = mul-le-mul h h
 
 pub misses-zero : (n : ℕ) (b : ℕ → ℕ → ℕ) → misses 0 n b ≡ 0
 unfolding misses sumTo
@@ -111,6 +124,10 @@ module _ (N n : ℕ) (p : List ℕ) where
 
   pub choice-at : areChoices N n p ≡ true → (k : ℕ) → k < N → (1 ≤ getD p k 0) × (getD p k 0 ≤ n)
   choice-at e k h = rw (nth-suc p k) at (choices-are N n p e .fits (suc k) (omega arith) h)
+
+  -- as many as meters, and none above n
+  pub choices-within : areChoices N n p ≡ true → (length p ≡ N) × ((k : ℕ) → k < N → getD p k 0 ≤ n)
+  choices-within e = (choices-are N n p e .size, λ k h. choice-at e k h .1)
 
   pub choices-no : (k : ℕ) → k < N → ((1 ≤ getD p k 0) × (getD p k 0 ≤ n) → ⊥) → false ≡ areChoices N n p
   choices-no k l h = not-so (areChoices N n p) (λ e. h (choice-at e k l))
@@ -162,12 +179,20 @@ module _ (n : ℕ) (p x : List ℕ) (v i : ℕ) (now : getD p v 0 ≡ suc i) (fi
         rest = λ q a. getD-set-other x (v * n + i) q 1 0 (omega (arith, part-within n v (v + 1) (omega arith))) ∙ c .rest q (omega (arith, part-within n v (v + 1) (omega arith)));
       }
 
--- where the bit of meter v's choice stands among l bits
-pub place-in : (N n : ℕ) (p : List ℕ) (v l : ℕ) → areChoices N n p ≡ true → v < N → l ≡ N * n → (1 ≤ getD p v 0) × (getD p v 0 ≤ n) × (v * n + (getD p v 0 - 1) < l) × (v * n + n ≤ l)
-place-in N n p v l e h d = omega (arith, choice-at N n p e v h, part-within n v N h)
+-- where the bit of meter v's choice c stands among l bits
+pub place-in : (N n c v l : ℕ) → (c ≡ 0 → ⊥) → c ≤ n → v < N → l ≡ N * n → (v * n + (c - 1) < l) × (v * n + n ≤ l)
+place-in N n c v l a b h d = omega (arith, part-within n v N h)
+
+-- the choice 0 sets no bit
+pub coded-skip : (n : ℕ) (p x : List ℕ) (v : ℕ) → getD p v 0 ≡ 0 → Coded n p x v → Coded n p x (v + 1)
+coded-skip n p x v e c =
+    record {
+      done = λ k j a b. elim (ℕ-discrete k v) [ yes d ↦ rw (d, e, same-no 0 (suc j) (omega arith)) (c .rest (v * n + j) (omega arith)) | no d ↦ c .done k j (omega arith) b ];
+      rest = λ q a. c .rest q (omega (arith, part-within n v (v + 1) (omega arith)));
+    }
 
 -- the choice is counted from 1
-pub coded-turn : (n : ℕ) (p x : List ℕ) (v c : ℕ) → getD p v 0 ≡ c → 1 ≤ c → c ≤ n → v * n + n ≤ length x → Coded n p x v → Coded n p (set x (v * n + (c - 1)) 1) (v + 1)
+pub coded-turn : (n : ℕ) (p x : List ℕ) (v c : ℕ) → getD p v 0 ≡ c → (c ≡ 0 → ⊥) → c ≤ n → v * n + n ≤ length x → Coded n p x v → Coded n p (set x (v * n + (c - 1)) 1) (v + 1)
 coded-turn n p x v c e a b l h = coded-next n p x v (c - 1) (omega arith) (omega arith) l h
 
 pub coded-end : (N n : ℕ) (p x : List ℕ) (v : ℕ) → v ≡ N → length p ≡ N → length x ≡ N * n → Coded n p x v → x ≡ code n p

@@ -1,10 +1,10 @@
-// One-hot choices: each of N meters takes one of the choices 1..n. Channels and groups stand above this.
+// One-hot choices: each of N meters takes one of the choices 1..n. Channels, groups and trees stand above this.
 // A meter's n bits are lent as a part of the assignment by themselves.
 ghost use Prim.Native.Nat.{ℕ, _+_, _*_, _≤_, _<_, _^_};
 ghost use mathlib.Core.Bool.{true};
 ghost use mathlib.Core.Path.{_≡_};
 ghost use lib.ListN.{length, getD};
-ghost use Rattle.lists.specs.Sums.{sumTo, lowest, differ, nth};
+ghost use Rattle.lists.specs.Sums.{sumTo, lowest, same, differ, gap, nth};
 ghost use Rattle.qubo.specs.Formula.{Bits, Assignment};
 ghost use Rattle.qubo.specs.Rows.{addTerms, Room};
 ghost use Rattle.onehot.specs.Choices.{bitAt, oneHots, missSquared, misses, areChoices, code, candidate};
@@ -101,9 +101,9 @@ pub fn add_part(sums: &mut [u64], part: &[u8], w: u64)
 }
 
 // (1 - k)².
-fn miss_squared(k: usize) -> u64
-    requires { ⌜ k ≤ 16 ⌝ }
-    ensures { λ r. ⌜ (r ≡ missSquared k) × (r ≤ 225) ⌝ }
+pub fn miss_squared(k: usize) -> u64
+    requires { ⌜ k ≤ 48 ⌝ }
+    ensures { λ r. ⌜ (r ≡ missSquared k) × (r ≤ 2209) ⌝ }
 {
     if k == 0 {
         return 1;
@@ -112,10 +112,21 @@ fn miss_squared(k: usize) -> u64
     j * j
 }
 
+// (a - b)².
+pub fn gap_squared(a: u64, b: u64) -> u64
+    requires { ⌜ (a ≤ 65535) × (b ≤ 65535) ⌝ }
+    ensures { λ r. ⌜ r ≡ gap a b * gap a b ⌝ }
+{
+    if a < b {
+        return (b - a) * (b - a);
+    }
+    (a - b) * (a - b)
+}
+
 // The sum over meters of (1 - bits set at it)².
 pub fn misses_of(bits: &[u8], meters: usize, n: usize) -> u64
-    requires { ⌜ (meters ≤ 48) × (n ≤ 16) × Assignment (meters * n) (now bits) ⌝ }
-    ensures { λ r. ⌜ (r ≡ misses meters n (bitAt n (now (bits .entry)))) × (r ≤ 10800) ⌝ }
+    requires { ⌜ (meters ≤ 48) × (n ≤ 48) × Assignment (meters * n) (now bits) ⌝ }
+    ensures { λ r. ⌜ (r ≡ misses meters n (bitAt n (now (bits .entry)))) × (r ≤ 106032) ⌝ }
 {
     let mut sum: u64 = 0;
     let mut v: usize = 0;
@@ -166,7 +177,7 @@ pub fn read_off(bits: &[u8], meters: usize, n: usize, plan: &mut [u8])
 }
 
 // Makes all bits 0.
-fn clear_bits(bits: &mut [u8])
+pub fn clear_bits(bits: &mut [u8])
     ensures { λ _. ⌜ (length (now (bits .exit)) ≡ length (now (bits .entry))) × ((k : ℕ) → getD (now (bits .exit)) k 0 ≡ 0) ⌝ }
 {
     let mut k = 0;
@@ -176,16 +187,31 @@ fn clear_bits(bits: &mut [u8])
     }
 }
 
-// The code of a plan.
+// The code of a plan; the choice 0 sets no bit of its meter.
 pub fn encode(plan: &[u8], meters: usize, n: usize, bits: &mut [u8])
-    requires { ⌜ (areChoices meters n (now plan) ≡ true) × (length (now bits) ≡ meters * n) ⌝ }
+    requires { ⌜ (length (now plan) ≡ meters) × ((v : ℕ) → v < meters → getD (now plan) v 0 ≤ n) × (length (now bits) ≡ meters * n) ⌝ }
     ensures { λ _. ⌜ now (bits .exit) ≡ code n (now (plan .entry)) ⌝ }
 {
     clear_bits(bits);
     let mut v: usize = 0;
     while v < meters {
         let c = plan[v] as usize;
-        bits[v * n + (c - 1)] = 1;
+        if c != 0 {
+            bits[v * n + (c - 1)] = 1;
+        }
+        v += 1;
+    }
+}
+
+// How many meters have each choice: those of choice g are counted in place g of 256, since a choice is a byte.
+pub fn count_choices(counts: &mut [u64], plan: &[u8])
+    requires { ⌜ (length (now plan) ≤ 48) × (length (now counts) ≡ 256) × ((g : ℕ) → getD (now counts) g 0 ≡ 0) ⌝ }
+    ensures { λ _. ⌜ (length (now (counts .exit)) ≡ 256) × ((g : ℕ) → getD (now (counts .exit)) g 0 ≡ sumTo (length (now (plan .entry))) (λ v. same (nth (now (plan .entry)) v) g)) ⌝ }
+{
+    let mut v: usize = 0;
+    while v < plan.len() {
+        let g = plan[v] as usize;
+        counts[g] = counts[g] + 1;
         v += 1;
     }
 }

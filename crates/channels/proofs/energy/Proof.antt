@@ -10,7 +10,7 @@ use Rattle.channels.proofs.energy.Tie as tie
 misses-of-requires : tie.Need-misses-of-requires
 misses-of-requires c κs =
     let s = c .before .before .before .before in
-    (s .pre .0 .arrays .survey .meters-high, s .pre .0 .high, s .pre .2)
+    (s .pre .0 .arrays .survey .meters-high, omega (arith, s .pre .0 .high), s .pre .2)
 
 clashing-requires : tie.Need-clashing-requires
 clashing-requires c κs =

@@ -1,11 +1,15 @@
 use borrow.Author.Needs.{needs}
+use Rattle.onehot.proofs.Turns.{choices-within}
 use Rattle.groups.specs.Plans.{codeOf}
 use Rattle.groups.proofs.Answers.{plan-choices}
 use Rattle.groups.proofs.encode.Statement.{statement}
 use Rattle.groups.proofs.encode.Tie as tie
 
 encode-requires : tie.Need-encode-requires
-encode-requires c κs = (plan-choices _ _ _ (c .before .before .before .pre .0), c .before .before .before .pre .1)
+encode-requires c κs =
+    let s = c .before .before .before in
+    let e = choices-within (s .args .meters) (s .args .m) (s .args .plan .now) (plan-choices _ _ _ (s .pre .0)) in
+    (e .0, e .1, s .pre .1)
 
 same-length : tie.Need-same-length
 same-length c = search needs

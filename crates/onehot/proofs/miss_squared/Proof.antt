@@ -1,7 +1,7 @@
 use Prim.Native.Nat.{_-_}
 use native.Mathlib.Omega.{arith}
 use borrow.Author.Needs.{needs}
-use Rattle.onehot.proofs.Turns.{miss-none, miss-some, square-15}
+use Rattle.onehot.proofs.Turns.{miss-none, miss-some, square-47}
 use Rattle.onehot.proofs.miss_squared.Statement.{statement}
 use Rattle.onehot.proofs.miss_squared.Tie as tie
 
@@ -12,10 +12,10 @@ sub-j : tie.Need-sub-j
 sub-j c = search needs
 
 mul-result : tie.Need-mul-result
-mul-result c = omega (arith, square-15 (c .before .args .k - 1) (omega arith))
+mul-result c = omega (arith, square-47 (c .before .args .k - 1) (omega arith))
 
 returns-2 : tie.Need-returns-2
-returns-2 c = (miss-some (c .before .args .k) (c .if1 .left), square-15 (c .before .args .k - 1) (omega arith))
+returns-2 c = (miss-some (c .before .args .k) (c .if1 .left), square-47 (c .before .args .k - 1) (omega arith))
 
 pub miss-squared-spec : {M : Type 1} → statement M
 miss-squared-spec = tie.close (tie.spec returns sub-j mul-result returns-2)

@@ -9,7 +9,7 @@ use Rattle.onehot.proofs.misses_of.Tie as tie
 
 -- the squares of the meters up to v are added up
 abbrev Inv-loop : tie.InvT-loop
-Inv-loop bits meters n sum₀ v₀ sum v = (v ≤ meters) × (sum ≤ 225 * v) × (sum ≡ misses v n (bitAt n bits))
+Inv-loop bits meters n sum₀ v₀ sum v = (v ≤ meters) × (sum ≤ 2209 * v) × (sum ≡ misses v n (bitAt n bits))
 
 abbrev μ-loop : tie.MeasureT-loop
 μ-loop bits meters n sum₀ v₀ sum v = meters - v

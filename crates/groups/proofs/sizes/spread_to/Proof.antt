@@ -2,6 +2,7 @@ use Prim.Native.Nat.{_≤_, _+_, _*_, _-_}
 use mathlib.Core.Path.{_≡_}
 use lib.ListN.{getD}
 use native.Mathlib.Omega.{arith}
+use Rattle.lists.proofs.Sums.{gap-small}
 use Rattle.groups.proofs.Counted.{spreadBefore, before-start, before-next, before-end}
 use Rattle.groups.proofs.sizes.spread_to.Statement.{statement}
 use Rattle.groups.proofs.sizes.spread_to.Tie as tie
@@ -34,10 +35,13 @@ gap-squared-requires : tie.Need-gap-squared-requires Inv-loop μ-loop
 gap-squared-requires c κs =
     let s = c .before .before .before .before .before in
     let l = c .before .before .loop in
-    (s .pre .3 (l .g) (omega arith) (omega arith), s .pre .3 (s .args .h) (omega arith) (omega arith))
+    omega (arith, s .pre .3 (l .g) (omega arith) (omega arith), s .pre .3 (s .args .h) (omega arith) (omega arith))
 
 add-sum : tie.Need-add-sum Inv-loop μ-loop
-add-sum c = omega arith
+add-sum c =
+    let s = c .before .before .before .before .before .before in
+    let l = c .before .before .before .loop in
+    omega (arith, c .gap-squared .ensures, gap-small (getD (s .args .sizes .now) (l .g) 0) (getD (s .args .sizes .now) (s .args .h) 0) 48 (s .pre .3 (l .g) (omega arith) (omega arith)) (s .pre .3 (s .args .h) (omega arith) (omega arith)))
 
 add-g : tie.Need-add-g Inv-loop μ-loop
 add-g c = omega arith
@@ -47,9 +51,9 @@ loop-less c = omega arith
 
 loop-again : tie.Need-loop-again Inv-loop μ-loop
 loop-again c =
-    let s = c .before .before .before .before .before .before .args in
+    let s = c .before .before .before .before .before .before in
     let l = c .before .before .before .loop in
-    omega (arith, c .gap-squared .ensures, before-next (s .sizes .now) (getD (s .sizes .now) (s .h) 0) (l .g) (omega arith))
+    omega (arith, c .gap-squared .ensures, gap-small (getD (s .args .sizes .now) (l .g) 0) (getD (s .args .sizes .now) (s .args .h) 0) 48 (s .pre .3 (l .g) (omega arith) (omega arith)) (s .pre .3 (s .args .h) (omega arith) (omega arith)), before-next (s .args .sizes .now) (getD (s .args .sizes .now) (s .args .h) 0) (l .g) (omega arith))
 
 returns : tie.Need-returns Inv-loop μ-loop
 returns c =

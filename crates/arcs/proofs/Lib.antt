@@ -1,0 +1,17 @@
+pub mod BitsApart
+pub mod ArcLists
+pub mod Placed
+pub mod ArcWalk
+pub mod EntryRows
+pub mod RowRoom
+pub mod Signed
+pub mod Alike
+pub mod EndRows
+pub mod DepthRows
+pub mod Worth
+pub mod Constants
+pub mod Bound
+pub mod Slices
+pub mod ArcSums
+pub mod Summing
+pub mod Entered

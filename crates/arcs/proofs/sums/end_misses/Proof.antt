@@ -1,0 +1,128 @@
+use Prim.Native.Nat.{_≤_, _+_, _-_, _*_}
+use mathlib.Core.Path.{_∙_}
+use lib.ListN.{length}
+use native.Mathlib.Omega.{arith}
+use Rattle.links.proofs.Walk.{link-at, arrays-few}
+use Rattle.links.specs.Links.{linksOf}
+use Rattle.arcs.proofs.ArcSums.{ArcsSummed, summed-start, summed-turn, summed-end}
+use Rattle.arcs.proofs.Slices.{arc-within}
+use Rattle.arcs.proofs.Summing.{missesOf, misses-sum, misses-link}
+use Rattle.arcs.specs.Arcs.{arcs}
+use Rattle.arcs.proofs.sums.end_misses.Statement.{statement}
+use Rattle.arcs.proofs.sums.end_misses.Tie as tie
+
+-- the arcs of the first k links are done
+abbrev Inv-loop : tie.InvT-loop
+Inv-loop bits us vs ws meters deepest sum₀ k₀ sum k = (k ≤ length us) × (sum ≤ 96 * k) × ArcsSummed us vs ws (missesOf meters deepest bits) k sum
+
+abbrev μ-loop : tie.MeasureT-loop
+μ-loop bits us vs ws meters deepest sum₀ k₀ sum k = length us - k
+
+loop-holds : tie.Need-loop-holds Inv-loop μ-loop
+loop-holds c =
+    let s = c .before .before .before .before in
+    (omega arith, omega arith, summed-start (s .args .us .now) (s .args .vs .now) (s .args .ws .now) (missesOf (s .args .meters) (s .args .deepest) (s .args .bits .now)))
+
+shared-slice-read-u : tie.Need-shared-slice-read-u Inv-loop μ-loop
+shared-slice-read-u c = omega arith
+
+cast-u : tie.Need-cast-u Inv-loop μ-loop
+cast-u c =
+    let s = c .before .before .before .before .before .before .before in
+    let l = c .before .before .loop in
+    let k = link-at (s .args .meters) (s .args .us .now) (s .args .vs .now) (s .args .ws .now) (s .pre .0 .arrays) (l .k) (omega arith) in
+    omega arith
+
+shared-slice-read-v : tie.Need-shared-slice-read-v Inv-loop μ-loop
+shared-slice-read-v c = omega (arith, c .before .before .before .before .before .before .before .before .pre .0 .arrays .same-v)
+
+cast-v : tie.Need-cast-v Inv-loop μ-loop
+cast-v c =
+    let s = c .before .before .before .before .before .before .before .before in
+    let l = c .before .before .before .loop in
+    let k = link-at (s .args .meters) (s .args .us .now) (s .args .vs .now) (s .args .ws .now) (s .pre .0 .arrays) (l .k) (omega arith) in
+    omega arith
+
+mul-arc-misses : tie.Need-mul-arc-misses Inv-loop μ-loop
+mul-arc-misses c =
+    let s = c .before .before .before .before .before .before .before .before in
+    let l = c .before .before .before .loop in
+    omega (arith, arrays-few (s .args .meters) (s .args .us .now) (s .args .vs .now) (s .args .ws .now) (s .pre .0 .arrays))
+
+arc-misses-requires : tie.Need-arc-misses-requires Inv-loop μ-loop
+arc-misses-requires c κs =
+    let s = c .before .before .before .before .before .before .before .before in
+    let l = c .before .before .before .loop in
+    let k = link-at (s .args .meters) (s .args .us .now) (s .args .vs .now) (s .args .ws .now) (s .pre .0 .arrays) (l .k) (omega arith) in
+    (s .pre .0 .arrays .survey .meters-high, s .pre .0 .deep, omega (arith, arrays-few (s .args .meters) (s .args .us .now) (s .args .vs .now) (s .args .ws .now) (s .pre .0 .arrays)), k .0, omega arith, omega arith, k .2, s .pre .1, omega (arith, arc-within (s .args .meters) (s .args .deepest) (length (s .args .us .now)) (2 * l .k) (omega arith), s .pre .2))
+
+mul-arc-misses-2 : tie.Need-mul-arc-misses-2 Inv-loop μ-loop
+mul-arc-misses-2 c =
+    let s = c .before .before .before .before .before .before .before .before .before in
+    let l = c .before .before .before .before .loop in
+    omega (arith, arrays-few (s .args .meters) (s .args .us .now) (s .args .vs .now) (s .args .ws .now) (s .pre .0 .arrays))
+
+add-arc-misses : tie.Need-add-arc-misses Inv-loop μ-loop
+add-arc-misses c =
+    let s = c .before .before .before .before .before .before .before .before .before in
+    let l = c .before .before .before .before .loop in
+    omega (arith, arrays-few (s .args .meters) (s .args .us .now) (s .args .vs .now) (s .args .ws .now) (s .pre .0 .arrays))
+
+arc-misses-requires-2 : tie.Need-arc-misses-requires-2 Inv-loop μ-loop
+arc-misses-requires-2 c κs =
+    let s = c .before .before .before .before .before .before .before .before .before in
+    let l = c .before .before .before .before .loop in
+    let k = link-at (s .args .meters) (s .args .us .now) (s .args .vs .now) (s .args .ws .now) (s .pre .0 .arrays) (l .k) (omega arith) in
+    (s .pre .0 .arrays .survey .meters-high, s .pre .0 .deep, omega (arith, arrays-few (s .args .meters) (s .args .us .now) (s .args .vs .now) (s .args .ws .now) (s .pre .0 .arrays)), omega arith, k .2, k .0, omega arith, s .pre .1, omega (arith, arc-within (s .args .meters) (s .args .deepest) (length (s .args .us .now)) (2 * l .k + 1) (omega arith), s .pre .2))
+
+add-sum : tie.Need-add-sum Inv-loop μ-loop
+add-sum c = omega (arith, c .before .arc-misses .ensures .1, c .arc-misses2 .ensures .1)
+
+add-sum-2 : tie.Need-add-sum-2 Inv-loop μ-loop
+add-sum-2 c =
+    let s = c .before .before .before .before .before .before .before .before .before .before in
+    let l = c .before .before .before .before .before .loop in
+    omega (arith, c .before .arc-misses .ensures .1, c .arc-misses2 .ensures .1, arrays-few (s .args .meters) (s .args .us .now) (s .args .vs .now) (s .args .ws .now) (s .pre .0 .arrays))
+
+add-k : tie.Need-add-k Inv-loop μ-loop
+add-k c = omega arith
+
+loop-less : tie.Need-loop-less Inv-loop μ-loop
+loop-less c = omega arith
+
+loop-again : tie.Need-loop-again Inv-loop μ-loop
+loop-again c =
+    let s = c .before .before .before .before .before .before .before .before .before .before in
+    let l = c .before .before .before .before .before .loop in
+    let up = c .before .arc-misses in
+    let back = c .arc-misses2 in
+    (omega arith, omega (arith, up .ensures .1, back .ensures .1), summed-turn (s .args .us .now) (s .args .vs .now) (s .args .ws .now) (missesOf (s .args .meters) (s .args .deepest) (s .args .bits .now)) (l .k) (l .sum) (l .inv .2) (up .result + back .result) (omega arith) (misses-link (s .args .meters) (s .args .deepest) (s .args .bits .now) (s .args .us .now) (s .args .vs .now) (s .args .ws .now) (l .k) (up .result) (back .result) (up .ensures .0) (back .ensures .0)))
+
+returns : tie.Need-returns Inv-loop μ-loop
+returns c =
+    let s = c .before .before .before .before .before .before in
+    let l = c .before .loop in
+    (summed-end (s .args .us .now) (s .args .vs .now) (s .args .ws .now) (missesOf (s .args .meters) (s .args .deepest) (s .args .bits .now)) (l .k) (l .sum) (l .inv .2) (omega arith) ∙ misses-sum (s .args .meters) (s .args .deepest) (arcs (linksOf (s .args .us .now) (s .args .vs .now) (s .args .ws .now))) (s .args .bits .now), omega (arith, arrays-few (s .args .meters) (s .args .us .now) (s .args .vs .now) (s .args .ws .now) (s .pre .0 .arrays)))
+
+pub end-misses-spec : {M : Type 1} → statement M
+end-misses-spec =
+    tie.close
+    (tie.spec
+    Inv-loop
+    μ-loop
+    loop-holds
+    shared-slice-read-u
+    cast-u
+    shared-slice-read-v
+    cast-v
+    mul-arc-misses
+    arc-misses-requires
+    mul-arc-misses-2
+    add-arc-misses
+    arc-misses-requires-2
+    add-sum
+    add-sum-2
+    add-k
+    loop-less
+    loop-again
+    returns)

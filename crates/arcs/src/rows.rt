@@ -1,0 +1,241 @@
+// What depths and arcs add to row i. The place of bit i tells which terms hold it: at most two walks over the links add them.
+ghost use Prim.Native.Nat.{ℕ, suc, pred, _+_, _*_, _≤_, _<_, _^_};
+ghost use mathlib.Core.Path.{_≡_};
+ghost use mathlib.Core.List.{[], _∷_};
+ghost use lib.ListN.{length, getD};
+ghost use lib.IntN.{pos, natAbs};
+ghost use Rattle.links.specs.Links.{linksOf};
+ghost use Rattle.qubo.specs.Rows.{addTerms, Room};
+ghost use Rattle.arcs.specs.Arcs.{arcs};
+ghost use Rattle.arcs.specs.Formula.{rootTerm, depthTerms, entryTerm, entryTerms, endTerms, weightTerms};
+ghost use Rattle.arcs.specs.Lent.{Lent, Row};
+ghost use Rattle.arcs.specs.Places.{IsPlace};
+ghost use Rattle.arcs.specs.Walks.{pairAt, pairsInto, pairsWithin, arcsBetween, Walk, Held};
+use crate::places::Place;
+use crate::places::arc_start;
+use crate::places::depth_start;
+
+// The bit of a meter at a depth.
+fn depth_bit(deepest: usize, meter: usize, depth: usize) -> usize
+    requires { ⌜ (1 ≤ meter) × (meter ≤ 48) × (depth ≤ deepest) × (deepest ≤ 24) ⌝ }
+    ensures { λ r. ⌜ r ≡ pred meter * suc deepest + depth ⌝ }
+{
+    depth_start(deepest, meter) + depth
+}
+
+// The bit of an arc at a depth.
+fn arc_bit(meters: usize, deepest: usize, number: usize, depth: usize) -> usize
+    requires { ⌜ (meters ≤ 48) × (deepest ≤ 24) × (number ≤ 512) × (1 ≤ depth) × (depth ≤ deepest) ⌝ }
+    ensures { λ r. ⌜ r ≡ meters * suc deepest + number * deepest + pred depth ⌝ }
+{
+    arc_start(meters, deepest, number) + (depth - 1)
+}
+
+// Adds v times bit i times the bit p of an arc to row i, if its end is the meter.
+fn add_arc(row: &mut [i64], i: usize, p: usize, end: u8, meter: usize, v: i64)
+    requires { ⌜ (1 ≤ length (now row)) × (p < i + length (now row)) × Room (2 ^ 61) (pairAt v i p end meter) (now row) ⌝ }
+    ensures { λ _. ⌜ now (row .exit) ≡ addTerms (pairAt v i p end meter) i (now (row .entry)) ⌝ }
+{
+    if (end as usize) == meter {
+        qubo::add_pair(row, i, i, p, v);
+    }
+}
+
+// Adds v times bit i times the bit of each arc into the meter to row i, at one depth: of link k the first arc leads from its tail to its head, the second back. With the two arrays swapped these are the arcs out of the meter.
+fn add_arcs(
+    row: &mut [i64],
+    i: usize,
+    tails: &[u8],
+    heads: &[u8],
+    meters: usize,
+    deepest: usize,
+    depth: usize,
+    meter: usize,
+    v: i64,
+)
+    requires { ⌜ Walk meters deepest i (now tails) (now heads) (now row) × (1 ≤ depth) × (depth ≤ deepest) × Room (2 ^ 61) (pairsInto v i meters deepest meter depth (arcsBetween (now tails) (now heads))) (now row) ⌝ }
+    ensures { λ _. ⌜ now (row .exit) ≡ addTerms (pairsInto v i meters deepest meter depth (arcsBetween (now (tails .entry)) (now (heads .entry)))) i (now (row .entry)) ⌝ }
+{
+    let mut k: usize = 0;
+    while k < tails.len() {
+        let there = arc_bit(meters, deepest, 2 * k, depth);
+        let back = arc_bit(meters, deepest, 2 * k + 1, depth);
+        add_arc(row, i, there, heads[k], meter, v);
+        add_arc(row, i, back, tails[k], meter, v);
+        k += 1;
+    }
+}
+
+// The same where the depth has arcs, and nothing elsewhere.
+fn add_arcs_within(
+    row: &mut [i64],
+    i: usize,
+    tails: &[u8],
+    heads: &[u8],
+    meters: usize,
+    deepest: usize,
+    depth: usize,
+    meter: usize,
+    v: i64,
+)
+    requires { ⌜ Walk meters deepest i (now tails) (now heads) (now row) × Room (2 ^ 61) (pairsWithin v i meters deepest meter depth (arcsBetween (now tails) (now heads))) (now row) ⌝ }
+    ensures { λ _. ⌜ now (row .exit) ≡ addTerms (pairsWithin v i meters deepest meter depth (arcsBetween (now (tails .entry)) (now (heads .entry)))) i (now (row .entry)) ⌝ }
+{
+    if depth == 0 {
+        return;
+    }
+    if deepest < depth {
+        return;
+    }
+    add_arcs(row, i, tails, heads, meters, deepest, depth, meter, v);
+}
+
+// Adds A times (1 - number of depth-0 bits)² to row i. These are every deepest + 1st bit from the first on.
+pub fn add_root(row: &mut [i64], i: usize, meters: usize, deepest: usize, penalty: u64)
+    requires { ⌜ (meters ≤ 48) × (deepest ≤ 24) × Row (2 ^ 59) meters deepest penalty 0 i (now row) ⌝ }
+    ensures { λ _. ⌜ now (row .exit) ≡ addTerms (rootTerm penalty meters deepest ∷ []) i (now (row .entry)) ⌝ }
+{
+    let run = qubo::Run {
+        start: 0,
+        step: deepest + 1,
+        count: meters,
+    };
+    qubo::add_one_hot(row, i, run, penalty as i64);
+}
+
+// Adds A times the sum per meter of (1 - its depth bits)² to row i: only depth bits are in such a term.
+pub fn add_depths(row: &mut [i64], i: usize, meters: usize, deepest: usize, penalty: u64)
+    requires { ⌜ (meters ≤ 48) × (deepest ≤ 24) × Row (2 ^ 59) meters deepest penalty 0 i (now row) ⌝ }
+    ensures { λ _. ⌜ now (row .exit) ≡ addTerms (depthTerms penalty meters deepest) i (now (row .entry)) ⌝ }
+{
+    let width = deepest + 1;
+    if i < meters * width {
+        onehot::add_one_hots(row, i, meters, width, penalty);
+    }
+}
+
+// Adds A times (depth bit of a meter - arcs into it at that depth)² to row i, where q is 2 A times the coefficient of bit i in it, which is 1 or -1.
+fn add_entry(
+    row: &mut [i64],
+    i: usize,
+    us: &[u8],
+    vs: &[u8],
+    meters: usize,
+    deepest: usize,
+    penalty: u64,
+    meter: usize,
+    depth: usize,
+    q: i64,
+)
+    requires { ⌜ Row (2 ^ 59) meters deepest penalty (length (now us)) i (now row) × Walk meters deepest i (now us) (now vs) (now row) × (1 ≤ meter) × (meter ≤ meters) × (1 ≤ depth) × (depth ≤ deepest) × Held penalty meters deepest (arcsBetween (now us) (now vs)) meter depth i q ⌝ }
+    ensures { λ _. ⌜ now (row .exit) ≡ addTerms (entryTerm penalty meters deepest (arcsBetween (now (us .entry)) (now (vs .entry))) meter depth ∷ []) i (now (row .entry)) ⌝ }
+{
+    let less = 0 - (penalty as i64);
+    let opposite = 0 - q;
+    let own = depth_bit(deepest, meter, depth);
+    qubo::add_single(row, i, i, less);
+    qubo::add_pair(row, i, i, own, q);
+    add_arcs(row, i, us, vs, meters, deepest, depth, meter, opposite);
+}
+
+// Adds A times the sum per meter and depth from 1 on of (its depth bit - arcs into it)² to row i. A depth bit is in the term of its meter and depth, an arc's in that of its child.
+pub fn add_entries(
+    row: &mut [i64],
+    i: usize,
+    place: Place,
+    us: &[u8],
+    vs: &[u8],
+    ws: &[u16],
+    meters: usize,
+    deepest: usize,
+    penalty: u64,
+)
+    requires { ⌜ Lent meters deepest (now us) (now vs) (now ws) × Row (2 ^ 59) meters deepest penalty (length (now us)) i (now row) × IsPlace meters deepest (linksOf (now us) (now vs) (now ws)) i place ⌝ }
+    ensures { λ _. ⌜ now (row .exit) ≡ addTerms (entryTerms penalty meters deepest (arcs (linksOf (now (us .entry)) (now (vs .entry)) (now (ws .entry))))) i (now (row .entry)) ⌝ }
+{
+    let twice = (2 * penalty) as i64;
+    match place {
+        Place::OfDepth { meter, depth } => {
+            if 0 < depth {
+                add_entry(
+                    row,
+                    i,
+                    us,
+                    vs,
+                    meters,
+                    deepest,
+                    penalty,
+                    meter,
+                    depth,
+                    twice,
+                );
+            }
+        }
+        Place::OfArc { child, depth, .. } => {
+            add_entry(
+                row,
+                i,
+                us,
+                vs,
+                meters,
+                deepest,
+                penalty,
+                child,
+                depth,
+                0 - twice,
+            );
+        }
+        Place::Behind => {}
+    }
+}
+
+// Adds A times the sum per arc from u to v at depth i of its bit times (2 - [u at i-1] - [v at i]) to row i. An arc's bit has 2 A; a meter's at a depth has -A with each arc out of it one deeper, and with each into it.
+pub fn add_ends(
+    row: &mut [i64],
+    i: usize,
+    place: Place,
+    us: &[u8],
+    vs: &[u8],
+    ws: &[u16],
+    meters: usize,
+    deepest: usize,
+    penalty: u64,
+)
+    requires { ⌜ Lent meters deepest (now us) (now vs) (now ws) × Row (2 ^ 59) meters deepest penalty (length (now us)) i (now row) × IsPlace meters deepest (linksOf (now us) (now vs) (now ws)) i place ⌝ }
+    ensures { λ _. ⌜ now (row .exit) ≡ addTerms (endTerms penalty meters deepest (arcs (linksOf (now (us .entry)) (now (vs .entry)) (now (ws .entry))))) i (now (row .entry)) ⌝ }
+{
+    let less = 0 - (penalty as i64);
+    match place {
+        Place::OfDepth { meter, depth } => {
+            add_arcs_within(row, i, vs, us, meters, deepest, depth + 1, meter, less);
+            add_arcs_within(row, i, us, vs, meters, deepest, depth, meter, less);
+        }
+        Place::OfArc { .. } => {
+            qubo::add_single(row, i, i, (2 * penalty) as i64);
+        }
+        Place::Behind => {}
+    }
+}
+
+// Adds the weight of every arc bit set to row i: an arc's bit has its arc's.
+pub fn add_weights(
+    row: &mut [i64],
+    i: usize,
+    place: Place,
+    us: &[u8],
+    vs: &[u8],
+    ws: &[u16],
+    meters: usize,
+    deepest: usize,
+)
+    requires { ⌜ Lent meters deepest (now us) (now vs) (now ws) × (1 ≤ length (now row)) × ((k : ℕ) → natAbs (getD (now row) k (pos 0)) ≤ 2 ^ 59) × IsPlace meters deepest (linksOf (now us) (now vs) (now ws)) i place ⌝ }
+    ensures { λ _. ⌜ now (row .exit) ≡ addTerms (weightTerms meters deepest (arcs (linksOf (now (us .entry)) (now (vs .entry)) (now (ws .entry))))) i (now (row .entry)) ⌝ }
+{
+    match place {
+        Place::OfDepth { .. } => {}
+        Place::OfArc { weight, .. } => {
+            qubo::add_single(row, i, i, weight as i64);
+        }
+        Place::Behind => {}
+    }
+}

@@ -1,0 +1,214 @@
+// The sums of depths and arcs in an assignment. What is counted for meter v at depth t stands in the place of that depth's bit.
+ghost use Prim.Native.Nat.{ℕ, suc, pred, _+_, _-_, _*_, _≤_, _<_};
+ghost use mathlib.Core.Path.{_≡_};
+ghost use lib.ListN.{length, getD};
+ghost use Rattle.lists.specs.Sums.{sumTo, same, gap, nth};
+ghost use Rattle.links.specs.Links.{linksOf};
+ghost use Rattle.qubo.specs.Formula.{Bits};
+ghost use Rattle.arcs.specs.Arcs.{arcs, depthBit, arcsEnd, depthAt, arcAt};
+ghost use Rattle.arcs.specs.Sums.{rootMiss, depthMisses, entriesOf, entryGaps, endMisses, arcCost};
+ghost use Rattle.arcs.specs.Lent.{Lent};
+use crate::places::arc_start;
+use crate::places::depth_start;
+
+// How many depth-0 bits are set.
+fn root_count(bits: &[u8], meters: usize, deepest: usize) -> usize
+    requires { ⌜ (meters ≤ 48) × (deepest ≤ 24) × Bits (now bits) × (meters * suc deepest ≤ length (now bits)) ⌝ }
+    ensures { λ r. ⌜ (r ≡ sumTo meters (λ v. depthAt deepest (now (bits .entry)) v 0)) × (r ≤ 48) ⌝ }
+{
+    let mut sum: usize = 0;
+    let mut v: usize = 0;
+    while v < meters {
+        let place = depth_start(deepest, v + 1);
+        sum += bits[place] as usize;
+        v += 1;
+    }
+    sum
+}
+
+// (1 - number of depth-0 bits)².
+pub fn root_miss(bits: &[u8], meters: usize, deepest: usize) -> u64
+    requires { ⌜ (meters ≤ 48) × (deepest ≤ 24) × Bits (now bits) × (meters * suc deepest ≤ length (now bits)) ⌝ }
+    ensures { λ r. ⌜ (r ≡ rootMiss meters (depthAt deepest (now (bits .entry)))) × (r ≤ 2209) ⌝ }
+{
+    onehot::miss_squared(root_count(bits, meters, deepest))
+}
+
+// Per meter (1 - its depth bits)²: the bits of depths are one-hot choices among deepest + 1.
+pub fn depth_misses(bits: &[u8], meters: usize, deepest: usize) -> u64
+    requires { ⌜ (meters ≤ 48) × (deepest ≤ 24) × Bits (now bits) × (meters * suc deepest ≤ length (now bits)) ⌝ }
+    ensures { λ r. ⌜ (r ≡ depthMisses meters deepest (depthAt deepest (now (bits .entry)))) × (r ≤ 106032) ⌝ }
+{
+    let n = deepest + 1;
+    let end = meters * n;
+    onehot::misses_of(&bits[..end], meters, n)
+}
+
+// Counts an arc into its child's places, at each depth that it has.
+fn add_arc(
+    counts: &mut [u64],
+    bits: &[u8],
+    meters: usize,
+    deepest: usize,
+    number: usize,
+    child: usize,
+)
+    requires { ⌜ (meters ≤ 48) × (deepest ≤ 24) × (number < 512) × (1 ≤ child) × (child ≤ meters) × Bits (now bits) × (meters * suc deepest + number * deepest + deepest ≤ length (now bits)) × (length (now counts) ≡ 1200) × ((i : ℕ) → getD (now counts) i 0 < 4294967296) ⌝ }
+    ensures { λ _. ⌜ (length (now (counts .exit)) ≡ 1200) × ((v t : ℕ) → 1 ≤ v → 1 ≤ t → t ≤ deepest → getD (now (counts .exit)) (depthBit deepest v t) 0 ≡ getD (now (counts .entry)) (depthBit deepest v t) 0 + same child v * getD (now (bits .entry)) (meters * suc deepest + number * deepest + pred t) 0) × ((i : ℕ) → getD (now (counts .exit)) i 0 ≤ getD (now (counts .entry)) i 0 + 1) ⌝ }
+{
+    let first = depth_start(deepest, child);
+    let start = arc_start(meters, deepest, number);
+    onehot::add_part(
+        &mut counts[first..first + deepest + 1],
+        &bits[start..start + deepest],
+        1,
+    );
+}
+
+// The arcs into each meter at each depth, in one walk of the links.
+fn gather_entries(
+    counts: &mut [u64],
+    bits: &[u8],
+    us: &[u8],
+    vs: &[u8],
+    ws: &[u16],
+    meters: usize,
+    deepest: usize,
+)
+    requires { ⌜ Lent meters deepest (now us) (now vs) (now ws) × Bits (now bits) × (arcsEnd meters deepest (length (now us)) ≤ length (now bits)) × (length (now counts) ≡ 1200) × ((i : ℕ) → getD (now counts) i 0 ≡ 0) ⌝ }
+    ensures { λ _. ⌜ (length (now (counts .exit)) ≡ 1200) × ((v t : ℕ) → 1 ≤ v → 1 ≤ t → t ≤ deepest → getD (now (counts .exit)) (depthBit deepest v t) 0 ≡ entriesOf (arcs (linksOf (now (us .entry)) (now (vs .entry)) (now (ws .entry)))) (arcAt meters deepest (now (bits .entry))) v t) ⌝ }
+{
+    let mut k: usize = 0;
+    while k < us.len() {
+        let u = us[k] as usize;
+        let v = vs[k] as usize;
+        add_arc(counts, bits, meters, deepest, 2 * k, v);
+        add_arc(counts, bits, meters, deepest, 2 * k + 1, u);
+        k += 1;
+    }
+}
+
+// The squared gaps between one meter's depth bits and the arcs counted, from depth 1 on.
+fn part_gaps(part: &[u8], counts: &[u64]) -> u64
+    requires { ⌜ (1 ≤ length (now part)) × (length (now part) ≤ 25) × (length (now counts) ≡ length (now part)) × Bits (now part) × ((t : ℕ) → 1 ≤ t → t < length (now part) → getD (now counts) t 0 ≤ 48) ⌝ }
+    ensures { λ r. ⌜ (r ≡ sumTo (pred (length (now (part .entry)))) (λ t. gap (getD (now (part .entry)) t 0) (getD (now (counts .entry)) t 0) * gap (getD (now (part .entry)) t 0) (getD (now (counts .entry)) t 0))) × (r ≤ 55296) ⌝ }
+{
+    let mut sum: u64 = 0;
+    let mut t: usize = 1;
+    while t < part.len() {
+        sum += onehot::gap_squared(part[t] as u64, counts[t]);
+        t += 1;
+    }
+    sum
+}
+
+// The same over all meters.
+fn meter_gaps(bits: &[u8], counts: &[u64], meters: usize, deepest: usize) -> u64
+    requires { ⌜ (meters ≤ 48) × (deepest ≤ 24) × Bits (now bits) × (meters * suc deepest ≤ length (now bits)) × (length (now counts) ≡ 1200) × ((v t : ℕ) → 1 ≤ v → 1 ≤ t → t ≤ deepest → getD (now counts) (depthBit deepest v t) 0 ≤ 48) ⌝ }
+    ensures { λ r. ⌜ (r ≡ sumTo meters (λ v. sumTo deepest (λ t. gap (depthAt deepest (now (bits .entry)) v t) (getD (now (counts .entry)) (depthBit deepest v t) 0) * gap (depthAt deepest (now (bits .entry)) v t) (getD (now (counts .entry)) (depthBit deepest v t) 0)))) × (r ≤ 2654208) ⌝ }
+{
+    let mut sum: u64 = 0;
+    let mut v: usize = 0;
+    while v < meters {
+        let first = depth_start(deepest, v + 1);
+        let end = first + deepest + 1;
+        sum += part_gaps(&bits[first..end], &counts[first..end]);
+        v += 1;
+    }
+    sum
+}
+
+// Per meter and depth i ≥ 1 (its depth-i bit - depth-i arcs into it)².
+pub fn entry_gaps(
+    bits: &[u8],
+    us: &[u8],
+    vs: &[u8],
+    ws: &[u16],
+    meters: usize,
+    deepest: usize,
+) -> u64
+    requires { ⌜ Lent meters deepest (now us) (now vs) (now ws) × Bits (now bits) × (arcsEnd meters deepest (length (now us)) ≤ length (now bits)) ⌝ }
+    ensures { λ r. ⌜ (r ≡ entryGaps meters deepest (arcs (linksOf (now (us .entry)) (now (vs .entry)) (now (ws .entry)))) (depthAt deepest (now (bits .entry))) (arcAt meters deepest (now (bits .entry)))) × (r ≤ 2654208) ⌝ }
+{
+    let mut counts: [u64; 1200] = [0; 1200];
+    gather_entries(&mut counts[..1200], bits, us, vs, ws, meters, deepest);
+    meter_gaps(bits, &counts[..1200], meters, deepest)
+}
+
+// Over an arc's bits: the bit times (2 - [parent one less deep] - [child as deep]).
+fn part_misses(part: &[u8], above: &[u8], below: &[u8]) -> u64
+    requires { ⌜ (length (now part) ≤ 24) × (length (now above) ≡ length (now part)) × (length (now below) ≡ length (now part)) × Bits (now part) × Bits (now above) × Bits (now below) ⌝ }
+    ensures { λ r. ⌜ (r ≡ sumTo (length (now (part .entry))) (λ i. nth (now (part .entry)) i * (2 - (nth (now (above .entry)) i + nth (now (below .entry)) i)))) × (r ≤ 48) ⌝ }
+{
+    let mut sum: u64 = 0;
+    let mut i: usize = 0;
+    while i < part.len() {
+        let set = (above[i] as u64) + (below[i] as u64);
+        sum += (part[i] as u64) * (2 - set);
+        i += 1;
+    }
+    sum
+}
+
+// The same for one arc.
+fn arc_misses(
+    bits: &[u8],
+    meters: usize,
+    deepest: usize,
+    number: usize,
+    parent: usize,
+    child: usize,
+) -> u64
+    requires { ⌜ (meters ≤ 48) × (deepest ≤ 24) × (number < 512) × (1 ≤ parent) × (parent ≤ meters) × (1 ≤ child) × (child ≤ meters) × Bits (now bits) × (meters * suc deepest + number * deepest + deepest ≤ length (now bits)) ⌝ }
+    ensures { λ r. ⌜ (r ≡ sumTo deepest (λ i. getD (now (bits .entry)) (meters * suc deepest + number * deepest + pred i) 0 * (2 - (depthAt deepest (now (bits .entry)) parent (pred i) + depthAt deepest (now (bits .entry)) child i)))) × (r ≤ 48) ⌝ }
+{
+    let start = arc_start(meters, deepest, number);
+    let above = depth_start(deepest, parent);
+    let below = depth_start(deepest, child) + 1;
+    part_misses(
+        &bits[start..start + deepest],
+        &bits[above..above + deepest],
+        &bits[below..below + deepest],
+    )
+}
+
+// Per arc and depth, its bit times (2 - [parent one less deep] - [child as deep]).
+pub fn end_misses(
+    bits: &[u8],
+    us: &[u8],
+    vs: &[u8],
+    ws: &[u16],
+    meters: usize,
+    deepest: usize,
+) -> u64
+    requires { ⌜ Lent meters deepest (now us) (now vs) (now ws) × Bits (now bits) × (arcsEnd meters deepest (length (now us)) ≤ length (now bits)) ⌝ }
+    ensures { λ r. ⌜ (r ≡ endMisses deepest (arcs (linksOf (now (us .entry)) (now (vs .entry)) (now (ws .entry)))) (depthAt deepest (now (bits .entry))) (arcAt meters deepest (now (bits .entry)))) × (r ≤ 24576) ⌝ }
+{
+    let mut sum: u64 = 0;
+    let mut k: usize = 0;
+    while k < us.len() {
+        let u = us[k] as usize;
+        let v = vs[k] as usize;
+        let there = arc_misses(bits, meters, deepest, 2 * k, u, v);
+        let back = arc_misses(bits, meters, deepest, 2 * k + 1, v, u);
+        sum += there + back;
+        k += 1;
+    }
+    sum
+}
+
+// The weight of every arc bit set: a link's two arcs have their bits one behind the other.
+pub fn arc_cost(bits: &[u8], us: &[u8], vs: &[u8], ws: &[u16], meters: usize, deepest: usize) -> u64
+    requires { ⌜ Lent meters deepest (now us) (now vs) (now ws) × Bits (now bits) × (arcsEnd meters deepest (length (now us)) ≤ length (now bits)) ⌝ }
+    ensures { λ r. ⌜ (r ≡ arcCost deepest (arcs (linksOf (now (us .entry)) (now (vs .entry)) (now (ws .entry)))) (arcAt meters deepest (now (bits .entry)))) × (r ≤ 805294080) ⌝ }
+{
+    let mut sum: u64 = 0;
+    let mut k: usize = 0;
+    while k < us.len() {
+        let start = arc_start(meters, deepest, 2 * k);
+        let set = onehot::set_count(&bits[start..start + 2 * deepest]);
+        sum += (ws[k] as u64) * (set as u64);
+        k += 1;
+    }
+    sum
+}

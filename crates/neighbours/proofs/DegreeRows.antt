@@ -1,0 +1,176 @@
+-- All squares of meters' neighbours in row i: none of them has a bit of a depth, those of its two ends have that of an arc, and its own meter's has a neighbour-count bit. The function add_degrees of src/degrees.rt cites these. Assumes nothing.
+use Prim.Native.Nat.{ℕ, zero, suc, _+_, _-_, _*_, _/_, _%_, _^_, _≤_, _<_}
+use mathlib.Core.Path.{_≡_, refl, sym, ap, subst, _∙_}
+use mathlib.Core.Bool.{Bool, true, false, _||_, cond}
+use mathlib.Core.List.{List, [], _∷_}
+use native.Mathlib.Omega.{arith}
+use native.Mathlib.Decide.{ℕ-discrete}
+use native.Mathlib.Nat.{mod-lt}
+use lib.Dec.{eqb}
+use lib.ListN.{length}
+use lib.IntN.{ℤ, pos, negsuc, natAbs}
+use borrow.Author.Tests.{eq-eqb, ne-eqb}
+use Rattle.links.specs.Links.{Link, linksOf}
+use Rattle.links.proofs.Arrays.{length-linksOf}
+use Rattle.qubo.specs.Formula.{Formula}
+use Rattle.qubo.specs.Table.{coef}
+use Rattle.qubo.specs.Terms.{eachOf, sum}
+use Rattle.qubo.specs.Rows.{addTerms}
+use Rattle.qubo.proofs.RowAction.{Absent, add-absent, add-append, add-swap, absent-eachOf, add-only, add-length, added-abs}
+use Rattle.qubo.proofs.RowTerms.{square-absent}
+use Rattle.arcs.specs.Arcs.{Arc, arcs, arcsEnd}
+use Rattle.arcs.specs.Lent.{Lent}
+use Rattle.arcs.specs.Places.{IsDepth, IsArc, IsPlace}
+use Rattle.arcs.specs.declared.places.Place.{Place}
+use Rattle.arcs.specs.declared.places.Place.the-variants.{OfDepth, OfArc, Behind}
+use Rattle.arcs.proofs.ArcLists.{ArcOf, lent-arc}
+use Rattle.arcs.proofs.BitsApart.{depth-below}
+use Rattle.neighbours.specs.Formula.{degreeTerm, degreeTerms}
+use Rattle.neighbours.specs.Walks.{degreeEntries, TableRow}
+use Rattle.neighbours.proofs.CountValue.{degree-norm}
+use Rattle.neighbours.proofs.CountRows.{count-inside}
+use Rattle.neighbours.proofs.DegreeBits.{form-depth, form-arc, form-own, form-other}
+
+-- ---- what a place says, once it is known which it is
+
+module _ (N D : ℕ) (ls : List Link) (i : ℕ) (q : Place) (is : IsPlace N D ls i q) where
+  pub place-depth : (v t : ℕ) → q ≡ OfDepth v t → IsDepth N D i v t
+  place-depth v t e = subst (IsPlace N D ls i) e is
+
+  pub place-arc : (k u v w t : ℕ) → q ≡ OfArc k u v w t → IsArc N D ls i (record { number = k; parent = u; child = v; weight = w }) t
+  place-arc k u v w t e = subst (IsPlace N D ls i) e is
+
+  pub place-behind : q ≡ Behind → arcsEnd N D (length ls) ≤ i
+  place-behind e = subst (IsPlace N D ls i) e is
+
+-- ---- of a family, two parts alone have bit i
+
+pub add-both : (n : ℕ) (G : ℕ → Formula) (m k i : ℕ) (r : List ℤ) → 1 ≤ m → m ≤ n → 1 ≤ k → k ≤ n → (m ≡ k → ⊥) → ((t : ℕ) → 1 ≤ t → t ≤ n → (t ≡ m → ⊥) → (t ≡ k → ⊥) → Absent (G t) i)
+    → addTerms (eachOf n G) i r ≡ addTerms (G k) i (addTerms (G m) i r)
+add-both zero G m k i r a b c d ne h = absurd (omega arith)
+add-both (suc n) G m k i r a b c d ne h =
+    add-append (eachOf n G) (G (suc n)) i r
+    ∙ elim (ℕ-discrete k (suc n)) [
+      | yes e ↦
+          ap (addTerms (G (suc n)) i) (add-only n G m i r a (omega arith) (λ t p q u. h t p (omega arith) u (omega arith)))
+          ∙ ap (λ (t : ℕ). addTerms (G t) i (addTerms (G m) i r)) (sym e)
+      | no e ↦ elim (ℕ-discrete m (suc n)) [
+        | yes f ↦
+            ap (addTerms (G (suc n)) i) (add-only n G k i r c (omega arith) (λ t p q u. h t p (omega arith) (omega arith) u))
+            ∙ ap (λ (t : ℕ). addTerms (G t) i (addTerms (G k) i r)) (sym f)
+            ∙ sym (add-append (G k) (G m) i r) ∙ add-swap (G k) (G m) i r ∙ add-append (G m) (G k) i r
+        | no f ↦
+            add-absent (G (suc n)) i (addTerms (eachOf n G) i r) (h (suc n) (omega arith) (omega arith) (omega arith) (omega arith))
+            ∙ add-both n G m k i r a (omega arith) c (omega arith) ne (λ t p q. h t p (omega arith))
+      ]
+    ]
+
+-- ---- a row with room to spare
+
+row-more : (limit more N D M d A i : ℕ) (r s : List ℤ) → limit ≤ more → s ≡ r → TableRow limit N D M d A i r → TableRow more N D M d A i s
+row-more limit more N D M d A i r s h e row = rw e (record { own = row .own; whole = row .whole; small = λ k. omega (arith, row .small k); penalty = row .penalty })
+
+module _ (A N D d i : ℕ) (us vs ws : List ℕ) (lent : Lent N D us vs ws) (d1 : 1 ≤ d) (d47 : d ≤ 47) (r : List ℤ) (row : TableRow (2 ^ 59) N D (length us) d A i r) where
+  abbrev links : List Link
+  links = linksOf us vs ws
+
+  abbrev terms : ℕ → Formula
+  terms v = degreeTerm A N D (length us) d (arcs links) v ∷ []
+
+  abbrev form : ℕ → ℤ
+  form v = coef (degreeEntries N D (length us) d (arcs links) v) i
+
+  -- a meter whose form has no bit i
+  absent : (v : ℕ) → form v ≡ pos 0 → Absent (terms v) i
+  absent v e = square-absent (pos A) (sum (degreeEntries N D (length us) d (arcs links) v)) i e
+
+  roomy : TableRow (3 * 2 ^ 58) N D (length us) d A i r
+  roomy = row-more _ _ _ _ _ _ _ _ _ _ (omega arith) refl row
+
+  -- ---- a bit of a depth
+
+  pub degrees-depth : (v t : ℕ) → IsDepth N D i v t → r ≡ addTerms (degreeTerms A N D (length us) d (arcs links)) i r
+  unfolding degreeTerms
+  degrees-depth v t p =
+      let h : i < N * suc D = omega (arith, p .here, depth-below N D v t (p .low) (p .high) (p .deep)) in
+      sym (add-absent (degreeTerms A N D (length us) d (arcs links)) i r (absent-eachOf N terms i (λ m a b. absent m (form-depth N D (length us) d links (length-linksOf us vs ws) m i h))))
+
+  -- ---- a bit of an arc
+
+  module _ (a : Arc) (t : ℕ) (p : IsArc N D links i a t) where
+    at-end : (v : ℕ) → form v ≡ cond (eqb (a .parent) v || eqb (a .child) v) (negsuc 0) (pos 0)
+    at-end v = form-arc N D (length us) d links (length-linksOf us vs ws) v i a t p
+
+    at-parent : form (a .parent) ≡ negsuc 0
+    at-parent = at-end (a .parent) ∙ rw (eq-eqb (a .parent) (a .parent) refl) refl
+
+    at-child : form (a .child) ≡ negsuc 0
+    at-child = at-end (a .child) ∙ rw (eq-eqb (a .child) (a .child) refl) (go (eqb (a .parent) (a .child)))
+      where
+        go : (s : Bool) → cond (s || true) (negsuc 0) (pos 0) ≡ negsuc 0
+        go true = refl
+        go false = refl
+
+    ends : ArcOf N a
+    ends = lent-arc N D us vs ws lent a (p .among)
+
+    pub parent-ready : (Lent N D us vs ws × (d ≤ 47) × (1 ≤ a .parent) × (a .parent ≤ N) × (natAbs (negsuc 0) ≤ 47) × TableRow (3 * 2 ^ 58) N D (length us) d A i r) × (form (a .parent) ≡ negsuc 0)
+    parent-ready = ((lent, d47, ends .parent-low, ends .parent-high, omega arith, roomy), at-parent)
+
+    module _ (s : List ℤ) (e : s ≡ addTerms (terms (a .parent)) i r) where
+      pub child-ready : (Lent N D us vs ws × (d ≤ 47) × (1 ≤ a .child) × (a .child ≤ N) × (natAbs (negsuc 0) ≤ 47) × TableRow (3 * 2 ^ 58) N D (length us) d A i s) × (form (a .child) ≡ negsuc 0)
+      child-ready = ((lent, d47, ends .child-low, ends .child-high, omega arith, rw e later), at-child)
+        where
+          later : TableRow (3 * 2 ^ 58) N D (length us) d A i (addTerms (terms (a .parent)) i r)
+          later = record {
+            own = omega (arith, row .own, add-length (terms (a .parent)) i r);
+            whole = omega (arith, row .whole, add-length (terms (a .parent)) i r);
+            small = λ k. omega (
+              arith,
+              row .small k,
+              added-abs (terms (a .parent)) i r k,
+              degree-norm N D d links (lent .arrays .survey) (lent .deep) d47 A (length us) (a .parent),
+              row .penalty,
+            );
+            penalty = row .penalty;
+          }
+
+      pub arc-done : (z : List ℤ) → z ≡ addTerms (terms (a .child)) i s → z ≡ addTerms (degreeTerms A N D (length us) d (arcs links)) i r
+      unfolding degreeTerms
+      arc-done z f =
+          f ∙ ap (addTerms (terms (a .child)) i) e
+          ∙ sym (add-both N terms (a .parent) (a .child) i r (ends .parent-low) (ends .parent-high) (ends .child-low) (ends .child-high) (ends .apart)
+          (λ m x y np nc. absent m (at-end m ∙ rw (ne-eqb (a .parent) m (λ g. np (sym g)), ne-eqb (a .child) m (λ g. nc (sym g))) refl)))
+
+  -- ---- a neighbour-count bit, where b is the first of them
+
+  module _ (b : ℕ) (is : b ≡ arcsEnd N D (length us)) (behind : arcsEnd N D (length links) ≤ i) where
+    after : arcsEnd N D (length us) ≤ i
+    after = rw (length-linksOf us vs ws) at behind
+
+    abbrev off : ℕ
+    off = i - arcsEnd N D (length us)
+
+    off-is : off ≡ i - b
+    off-is = ap (λ (k : ℕ). i - k) (sym is)
+
+    inside : off / d < N
+    inside = count-inside N D (length us) d i after d1 (omega (arith, row .whole, row .own))
+
+    pub count-behind : b ≤ i
+    count-behind = omega (arith, after)
+
+    pub count-number : (i - b) % d + 1 ≤ 47
+    count-number = omega (arith, mod-lt (i - b) d1)
+
+    pub count-ready : (Lent N D us vs ws × (d ≤ 47) × (1 ≤ (i - b) / d + 1) × ((i - b) / d + 1 ≤ N) × (natAbs (pos ((i - b) % d + 1)) ≤ 47) × TableRow (3 * 2 ^ 58) N D (length us) d A i r) × (form ((i - b) / d + 1) ≡ pos ((i - b) % d + 1))
+    count-ready = (
+      (lent, d47, omega arith, rw (← off-is) (omega (arith, inside)), count-number, roomy),
+      rw (← off-is) (form-own N D (length us) d links (length-linksOf us vs ws) (off / d + 1) i after d1 refl),
+    )
+
+    pub count-done : (z : List ℤ) → z ≡ addTerms (terms ((i - b) / d + 1)) i r → z ≡ addTerms (degreeTerms A N D (length us) d (arcs links)) i r
+    unfolding degreeTerms
+    count-done z e =
+        e ∙ rw (← off-is) refl
+        ∙ sym (add-only N terms (off / d + 1) i r (omega arith) (omega (arith, inside)) (λ m x y ne. absent m (form-other N D (length us) d links (length-linksOf us vs ws) m i after x ne)))

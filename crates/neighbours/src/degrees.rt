@@ -1,0 +1,264 @@
+// The neighbours of each meter: what the squares of (sum of j over its neighbour-count bits set - all arc bits in or out of it) add to a row, and their sum in an assignment.
+use crate::counts;
+use arcs::places::Place;
+ghost use Prim.Native.Nat.{ℕ, _+_, _*_, _^_, _≤_, _<_};
+ghost use mathlib.Core.Path.{_≡_};
+ghost use mathlib.Core.List.{[], _∷_};
+ghost use lib.ListN.{length, getD, set};
+ghost use lib.IntN.{pos, natAbs, _-ℤ_, _*ℤ_};
+ghost use Rattle.lists.specs.Sums.{sumTo, gap, nth};
+ghost use Rattle.links.specs.Links.{linksOf};
+ghost use Rattle.qubo.specs.Formula.{Bits, Assignment};
+ghost use Rattle.qubo.specs.Table.{coef};
+ghost use Rattle.qubo.specs.Terms.{over, times};
+ghost use Rattle.qubo.specs.Rows.{addTerms, RunBelow, Room};
+ghost use Rattle.onehot.specs.Choices.{bitAt};
+ghost use Rattle.arcs.specs.Arcs.{arcs, arcsEnd, arcAt};
+ghost use Rattle.arcs.specs.Lent.{Lent};
+ghost use Rattle.arcs.specs.Places.{IsPlace};
+ghost use Rattle.neighbours.specs.Formula.{countAt, touching, degreeTerm, degreeTerms, touchesOf, degreeGaps};
+ghost use Rattle.neighbours.specs.Walks.{numbered, degreeEntries, linkRun, linkPart, linkSet, TableRow, Roomy};
+
+// x times y.
+fn mul(x: i64, y: i64) -> i64
+    requires { ⌜ natAbs x * natAbs y < 2 ^ 63 ⌝ }
+    ensures { λ r. ⌜ r ≡ x *ℤ y ⌝ }
+{
+    x * y
+}
+
+// Adds q times bit i times the sum of j over the d bits from `start` on to row i.
+fn add_numbered(row: &mut [i64], i: usize, start: usize, d: usize, q: i64)
+    requires { ⌜ (1 ≤ length (now row)) × (d ≤ 47) × (start + d ≤ i + length (now row)) × Roomy q i (now row) ⌝ }
+    ensures { λ _. ⌜ now (row .exit) ≡ addTerms (times q i (numbered d start) ∷ []) i (now (row .entry)) ⌝ }
+{
+    let mut t: usize = 0;
+    while t < d {
+        let j = (t + 1) as i64;
+        qubo::add_pair(row, i, i, start + t, mul(q, j));
+        t += 1;
+    }
+}
+
+// The bits of the two arcs of link k.
+fn link_run(meters: usize, deepest: usize, k: usize) -> qubo::Run
+    requires { ⌜ (meters ≤ 48) × (deepest ≤ 24) × (k ≤ 256) ⌝ }
+    ensures { λ r. ⌜ r ≡ linkRun meters deepest k ⌝ }
+{
+    let start = arcs::places::arc_start(meters, deepest, 2 * k);
+    qubo::Run {
+        start: start,
+        step: 1,
+        count: 2 * deepest,
+    }
+}
+
+// Adds q times bit i times the bits of a link's two arcs to row i, where the link has an end at the meter.
+fn add_link(row: &mut [i64], i: usize, run: qubo::Run, u: usize, v: usize, meter: usize, q: i64)
+    requires { ⌜ RunBelow run (i + length (now row)) × Room (2 ^ 61) (linkPart u v meter q i run) (now row) ⌝ }
+    ensures { λ _. ⌜ now (row .exit) ≡ addTerms (linkPart u v meter q i run) i (now (row .entry)) ⌝ }
+{
+    if u == meter {
+        qubo::add_run(row, i, run, q);
+    } else if v == meter {
+        qubo::add_run(row, i, run, q);
+    }
+}
+
+// Adds q times bit i times what the arc bits in or out of a meter take off its form to row i, in one walk of the links.
+fn add_touching(
+    row: &mut [i64],
+    i: usize,
+    us: &[u8],
+    vs: &[u8],
+    ws: &[u16],
+    meters: usize,
+    deepest: usize,
+    meter: usize,
+    q: i64,
+)
+    requires { ⌜ Lent meters deepest (now us) (now vs) (now ws) × (arcsEnd meters deepest (length (now us)) ≤ i + length (now row)) × Roomy q i (now row) ⌝ }
+    ensures { λ _. ⌜ now (row .exit) ≡ addTerms (times q i (over (arcs (linksOf (now (us .entry)) (now (vs .entry)) (now (ws .entry)))) (touching meters deepest meter)) ∷ []) i (now (row .entry)) ⌝ }
+{
+    let less = 0 - q;
+    let mut k: usize = 0;
+    while k < us.len() {
+        let run = link_run(meters, deepest, k);
+        add_link(row, i, run, us[k] as usize, vs[k] as usize, meter, less);
+        k += 1;
+    }
+}
+
+// 2 A c: what each unit of another bit's coefficient adds to its pair with a bit of coefficient c.
+fn twice_of(penalty: u64, c: i64) -> i64
+    requires { ⌜ (penalty ≤ 20000000) × (natAbs c ≤ 47) ⌝ }
+    ensures { λ r. ⌜ r ≡ pos 2 *ℤ (pos penalty *ℤ c) ⌝ }
+{
+    let factor = mul(penalty as i64, c);
+    mul(2, factor)
+}
+
+// -A c²: what makes of 2 A c² the A c² that a bit of coefficient c itself gets.
+fn own_of(penalty: u64, c: i64) -> i64
+    requires { ⌜ (penalty ≤ 20000000) × (natAbs c ≤ 47) ⌝ }
+    ensures { λ r. ⌜ r ≡ pos 0 -ℤ pos penalty *ℤ c *ℤ c ⌝ }
+{
+    let factor = mul(penalty as i64, c);
+    let square = mul(factor, c);
+    0 - square
+}
+
+// Adds A times the square of a meter's form to row i, where bit i has the coefficient c in the form: j for the meter's bit of j neighbours, -1 for an arc in or out of it.
+fn add_degree(
+    row: &mut [i64],
+    i: usize,
+    us: &[u8],
+    vs: &[u8],
+    ws: &[u16],
+    meters: usize,
+    deepest: usize,
+    d: usize,
+    penalty: u64,
+    meter: usize,
+    c: i64,
+)
+    requires { ⌜ Lent meters deepest (now us) (now vs) (now ws) × (d ≤ 47) × (1 ≤ meter) × (meter ≤ meters) × (natAbs c ≤ 47) × TableRow (3 * 2 ^ 58) meters deepest (length (now us)) d penalty i (now row) ⌝ }
+    requires { ⌜ coef (degreeEntries meters deepest (length (now us)) d (arcs (linksOf (now us) (now vs) (now ws))) meter) i ≡ c ⌝ }
+    ensures { λ _. ⌜ now (row .exit) ≡ addTerms (degreeTerm penalty meters deepest (length (now (us .entry))) d (arcs (linksOf (now (us .entry)) (now (vs .entry)) (now (ws .entry)))) meter ∷ []) i (now (row .entry)) ⌝ }
+{
+    let own = own_of(penalty, c);
+    let twice = twice_of(penalty, c);
+    let start = counts::first_count(meters, deepest, us.len()) + (meter - 1) * d;
+    qubo::add_single(row, i, i, own);
+    add_numbered(row, i, start, d, twice);
+    add_touching(row, i, us, vs, ws, meters, deepest, meter, twice);
+}
+
+// Adds A times the sum over meters of those squares to row i. A bit of a depth is in none of them, that of an arc in those of its two ends, a neighbour-count bit in that of its meter.
+pub fn add_degrees(
+    row: &mut [i64],
+    i: usize,
+    place: Place,
+    us: &[u8],
+    vs: &[u8],
+    ws: &[u16],
+    meters: usize,
+    deepest: usize,
+    d: usize,
+    penalty: u64,
+)
+    requires { ⌜ Lent meters deepest (now us) (now vs) (now ws) × (1 ≤ d) × (d ≤ 47) × TableRow (2 ^ 59) meters deepest (length (now us)) d penalty i (now row) × IsPlace meters deepest (linksOf (now us) (now vs) (now ws)) i place ⌝ }
+    ensures { λ _. ⌜ now (row .exit) ≡ addTerms (degreeTerms penalty meters deepest (length (now (us .entry))) d (arcs (linksOf (now (us .entry)) (now (vs .entry)) (now (ws .entry))))) i (now (row .entry)) ⌝ }
+{
+    match place {
+        Place::OfDepth { meter: _, depth: _ } => {}
+        Place::OfArc {
+            number: _,
+            parent,
+            child,
+            weight: _,
+            depth: _,
+        } => {
+            add_degree(row, i, us, vs, ws, meters, deepest, d, penalty, parent, -1);
+            add_degree(row, i, us, vs, ws, meters, deepest, d, penalty, child, -1);
+        }
+        Place::Behind => {
+            let off = i - counts::first_count(meters, deepest, us.len());
+            let meter = off / d + 1;
+            let j = (off % d + 1) as i64;
+            add_degree(row, i, us, vs, ws, meters, deepest, d, penalty, meter, j);
+        }
+    }
+}
+
+// How many bits of the two arcs of link k are set.
+fn link_set(bits: &[u8], meters: usize, deepest: usize, k: usize) -> u64
+    requires { ⌜ (meters ≤ 48) × (deepest ≤ 24) × (k ≤ 256) × Bits (now bits) × (arcsEnd meters deepest (k + 1) ≤ length (now bits)) ⌝ }
+    ensures { λ r. ⌜ (r ≡ linkSet meters deepest (now (bits .entry)) k) × (r ≤ 48) ⌝ }
+{
+    let run = link_run(meters, deepest, k);
+    let start = run.start;
+    let end = start + run.count;
+    onehot::set_count(&bits[start..end]) as u64
+}
+
+// Adds c to the sum of meter m.
+fn add_count(sums: &mut [u64], m: usize, c: u64)
+    requires { ⌜ (m < length (now sums)) × (getD (now sums) m 0 < 4294967296) × (c ≤ 48) ⌝ }
+    ensures { λ _. ⌜ now (sums .exit) ≡ set (now (sums .entry)) m (getD (now (sums .entry)) m 0 + c) ⌝ }
+{
+    sums[m] = sums[m] + c;
+}
+
+// The arc bits set in or out of each meter m, in place m, in one walk of the links; a meter's number is a byte.
+fn gather_touches(
+    sums: &mut [u64],
+    bits: &[u8],
+    us: &[u8],
+    vs: &[u8],
+    ws: &[u16],
+    meters: usize,
+    deepest: usize,
+)
+    requires { ⌜ Lent meters deepest (now us) (now vs) (now ws) × Bits (now bits) × (arcsEnd meters deepest (length (now us)) ≤ length (now bits)) × (length (now sums) ≡ 256) × ((m : ℕ) → getD (now sums) m 0 ≡ 0) ⌝ }
+    ensures { λ _. ⌜ (length (now (sums .exit)) ≡ 256) × ((m : ℕ) → getD (now (sums .exit)) m 0 ≡ touchesOf deepest (arcs (linksOf (now (us .entry)) (now (vs .entry)) (now (ws .entry)))) (arcAt meters deepest (now (bits .entry))) m) × ((m : ℕ) → getD (now (sums .exit)) m 0 ≤ 12288) ⌝ }
+{
+    let mut k: usize = 0;
+    while k < us.len() {
+        let both = link_set(bits, meters, deepest, k);
+        add_count(sums, us[k] as usize, both);
+        add_count(sums, vs[k] as usize, both);
+        k += 1;
+    }
+}
+
+// The sum of j over the bits set in a part.
+fn numbers_set(part: &[u8]) -> u64
+    requires { ⌜ Bits (now part) × (length (now part) ≤ 47) ⌝ }
+    ensures { λ r. ⌜ (r ≡ sumTo (length (now (part .entry))) (λ j. j * nth (now (part .entry)) j)) × (r ≤ 2209) ⌝ }
+{
+    let mut sum: u64 = 0;
+    let mut j: usize = 0;
+    while j < part.len() {
+        let bit = part[j] as u64;
+        j += 1;
+        sum += (j as u64) * bit;
+    }
+    sum
+}
+
+// The sum over meters of the squared gaps between the sum of j over a meter's d bits set and what is counted in its place.
+fn gaps_of(sums: &[u64], bits: &[u8], meters: usize, d: usize) -> u64
+    requires { ⌜ (meters ≤ 48) × (d ≤ 47) × (meters < length (now sums)) × ((m : ℕ) → getD (now sums) m 0 ≤ 12288) × Assignment (meters * d) (now bits) ⌝ }
+    ensures { λ r. ⌜ (r ≡ sumTo meters (λ v. gap (sumTo d (λ j. j * bitAt d (now (bits .entry)) v j)) (getD (now (sums .entry)) v 0) * gap (sumTo d (λ j. j * bitAt d (now (bits .entry)) v j)) (getD (now (sums .entry)) v 0))) × (r ≤ 2 ^ 33) ⌝ }
+{
+    let mut sum: u64 = 0;
+    let mut v: usize = 0;
+    while v < meters {
+        let start = v * d;
+        let end = start + d;
+        let counted = numbers_set(&bits[start..end]);
+        v += 1;
+        sum += onehot::gap_squared(counted, sums[v]);
+    }
+    sum
+}
+
+// Per meter (sum of j over its neighbour-count bits set - all arc bits in or out of it)².
+pub fn degree_gaps(
+    bits: &[u8],
+    us: &[u8],
+    vs: &[u8],
+    ws: &[u16],
+    meters: usize,
+    deepest: usize,
+    d: usize,
+) -> u64
+    requires { ⌜ Lent meters deepest (now us) (now vs) (now ws) × (d ≤ 47) × Assignment (arcsEnd meters deepest (length (now us)) + meters * d) (now bits) ⌝ }
+    ensures { λ r. ⌜ (r ≡ degreeGaps meters deepest d (arcs (linksOf (now (us .entry)) (now (vs .entry)) (now (ws .entry)))) (arcAt meters deepest (now (bits .entry))) (countAt meters deepest (length (now (us .entry))) d (now (bits .entry)))) × (r ≤ 2 ^ 33) ⌝ }
+{
+    let mut sums: [u64; 256] = [0; 256];
+    gather_touches(&mut sums[..256], bits, us, vs, ws, meters, deepest);
+    let base = counts::first_count(meters, deepest, us.len());
+    gaps_of(&sums[..256], &bits[base..], meters, d)
+}

@@ -1,0 +1,11 @@
+pub mod Ranges
+pub mod Shape
+pub mod Depths
+pub mod TreeLinks
+pub mod Counting
+pub mod Chains
+pub mod Rooted
+pub mod Centre
+pub mod Growing
+pub mod Trees
+pub mod Recursion

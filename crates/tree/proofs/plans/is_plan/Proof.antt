@@ -1,0 +1,84 @@
+use mathlib.Core.Path.{_≡_, refl, sym, _∙_}
+use native.Mathlib.Omega.{arith}
+use lib.ListN.{length}
+use borrow.Author.Tests.{not-true, not-false}
+use Rattle.lists.proofs.Stores.{zero-entries}
+use Rattle.links.proofs.Walk.{arrays-few}
+use Rattle.tree.proofs.PlanTest.{one-root, roots-other, plan-size, plan-root, plan-unlinked, plan-deep, plan-is}
+use borrow.Author.Needs.{needs}
+use Rattle.tree.proofs.plans.is_plan.Statement.{statement}
+use Rattle.tree.proofs.plans.is_plan.Tie as tie
+
+returns : tie.Need-returns
+returns c = plan-size _ _ _ _ (c .if1 .taken)
+
+slice-aggregate-count-choices : tie.Need-slice-aggregate-count-choices
+slice-aggregate-count-choices c = search needs
+
+count-choices-requires : tie.Need-count-choices-requires
+count-choices-requires c κs =
+    let s = c .before .before .before .before .before .before in
+    (omega (arith, s .pre .survey .meters-high, c .before .if1 .left), refl, zero-entries 256)
+
+array-read-if2 : tie.Need-array-read-if2
+array-read-if2 c = search needs
+
+returns-2 : tie.Need-returns-2
+returns-2 c =
+    let s = c .before .before .before .before .before .before .before .before .before in
+    let size : length (s .args .plan .now) ≡ s .args .meters = omega (arith, c .before .before .before .before .if1 .left) in
+    plan-root _ _ _ _ size (roots-other _ _ _ size (c .before .before .count-choices .ensures .1 0) (λ e. omega (arith, c .if2 .taken)))
+
+parent-links-requires : tie.Need-parent-links-requires
+parent-links-requires c κs = let s = c .before .before .before .before .before .before .before .before .before in (s .pre .same-v, arrays-few _ _ _ _ (s .pre))
+
+sub-if3 : tie.Need-sub-if3
+sub-if3 c = search needs
+
+returns-3 : tie.Need-returns-3
+returns-3 c =
+    let s = c .before .before .before .before .before .before .before .before .before .before .before in
+    let size : length (s .args .plan .now) ≡ s .args .meters = omega (arith, c .before .before .before .before .before .before .if1 .left) in
+    let root = one-root _ _ _ size (c .before .before .before .before .count-choices .ensures .1 0) (omega (arith, c .before .before .if2 .left)) in
+    plan-unlinked _ _ _ _ size root (s .pre .survey) _ (c .before .parent-links .ensures _) (λ e. omega (arith, c .if3 .taken, s .pre .survey .meters-low))
+
+depths-within-requires : tie.Need-depths-within-requires
+depths-within-requires c κs = search needs
+
+returns-4 : tie.Need-returns-4
+returns-4 c =
+    let s = c .before .before .before .before .before .before .before .before .before .before .before .before .before in
+    let size : length (s .args .plan .now) ≡ s .args .meters = omega (arith, c .before .before .before .before .before .before .before .before .if1 .left) in
+    let root = one-root _ _ _ size (c .before .before .before .before .before .before .count-choices .ensures .1 0) (omega (arith, c .before .before .before .before .if2 .left)) in
+    plan-deep _ _ _ _ size root (s .pre .survey) _ (c .before .before .before .parent-links .ensures _) (omega (arith, c .before .before .if3 .left)) (sym (c .before .depths-within .ensures) ∙ not-true _ (c .if4 .taken))
+
+slice-aggregate-within-limit : tie.Need-slice-aggregate-within-limit
+slice-aggregate-within-limit c = search needs
+
+within-limit-requires : tie.Need-within-limit-requires
+within-limit-requires c κs = search needs
+
+returns-5 : tie.Need-returns-5
+returns-5 c =
+    let s = c .before .before .before .before .before .before .before .before .before .before .before .before .before .before .before in
+    let size : length (s .args .plan .now) ≡ s .args .meters = omega (arith, c .before .before .before .before .before .before .before .before .before .before .if1 .left) in
+    let root = one-root _ _ _ size (c .before .before .before .before .before .before .before .before .count-choices .ensures .1 0) (omega (arith, c .before .before .before .before .before .before .if2 .left)) in
+    plan-is _ _ _ _ size root (s .pre .survey) _ (c .before .before .before .before .before .parent-links .ensures _) (omega (arith, c .before .before .before .before .if3 .left)) (sym (c .before .before .before .depths-within .ensures) ∙ not-false _ (c .before .before .if4 .left)) _ (c .within-limit .ensures)
+
+pub is-plan-spec : {M : Type 1} → statement M
+is-plan-spec =
+    tie.close
+    (tie.spec
+    returns
+    slice-aggregate-count-choices
+    count-choices-requires
+    array-read-if2
+    returns-2
+    parent-links-requires
+    sub-if3
+    returns-3
+    depths-within-requires
+    returns-4
+    slice-aggregate-within-limit
+    within-limit-requires
+    returns-5)

@@ -1,0 +1,192 @@
+// The code of a plan, and the parents that an assignment's arcs give.
+ghost use Prim.Native.Nat.{ℕ, _+_, _*_, _≤_, _<_};
+ghost use mathlib.Core.Bool.{true};
+ghost use mathlib.Core.Path.{_≡_};
+ghost use mathlib.Core.List.{List};
+ghost use lib.ListN.{length, getD};
+ghost use Rattle.lists.specs.Sums.{sumTo, sumOf, same};
+ghost use Rattle.links.specs.Links.{linksOf};
+ghost use Rattle.links.specs.Survey.{Arrays};
+ghost use Rattle.qubo.specs.Formula.{Bits};
+ghost use Rattle.onehot.specs.Choices.{code};
+ghost use Rattle.arcs.specs.Arcs.{Arc, arcs, arcsEnd, arcAt};
+ghost use Rattle.tree.specs.Formula.{bitCount};
+ghost use Rattle.tree.specs.Plans.{depthChoices, arcChoice, arcChoices, countChoices, isPlan, codeOf};
+ghost use Rattle.tree.specs.Decoding.{candidateTo};
+ghost use Rattle.tree.specs.Stores.{Counted, placed, setFrom, added};
+
+// Which of its depth bits each meter has set.
+fn fill_depths(choices: &mut [u8], plan: &[u8], meters: usize)
+    requires { ⌜ (meters ≤ 48) × (length (now choices) ≡ meters) ⌝ }
+    ensures { λ _. ⌜ now (choices .exit) ≡ depthChoices meters (now (plan .entry)) ⌝ }
+{
+    let mut v: usize = 0;
+    while v < meters {
+        let b = crate::plans::depth_bit(plan, v + 1, meters);
+        choices[v] = b as u8;
+        v += 1;
+    }
+}
+
+// Which of its bits the arc from u to v has set, from 1: that of the depth of v where u is its parent, else none.
+fn arc_choice(plan: &[u8], u: u8, v: u8, meters: usize) -> u8
+    requires { ⌜ meters ≤ 48 ⌝ }
+    ensures { λ r. ⌜ ((a : Arc) → a .parent ≡ u → a .child ≡ v → r ≡ arcChoice meters (now (plan .entry)) a) ⌝ }
+{
+    if crate::plans::is_parent(plan, u, v) == 0 {
+        return 0;
+    }
+    let b = crate::plans::depth_bit(plan, v as usize, meters);
+    if b == 0 {
+        return 0;
+    }
+    (b - 1) as u8
+}
+
+// Which of its bits each arc has set, whatever the weights are: for each link that of u to v, then that of v to u.
+fn fill_arcs(choices: &mut [u8], plan: &[u8], us: &[u8], vs: &[u8], meters: usize)
+    requires { ⌜ (meters ≤ 48) × (length (now vs) ≡ length (now us)) × (length (now us) ≤ 256) × (length (now choices) ≡ 2 * length (now us)) ⌝ }
+    ensures { λ _. ⌜ ((ws : List ℕ) → now (choices .exit) ≡ arcChoices meters (linksOf (now (us .entry)) (now (vs .entry)) ws) (now (plan .entry))) ⌝ }
+{
+    let mut k: usize = 0;
+    while k < us.len() {
+        let at = 2 * k;
+        choices[at] = arc_choice(plan, us[k], vs[k], meters);
+        choices[at + 1] = arc_choice(plan, vs[k], us[k], meters);
+        k += 1;
+    }
+}
+
+// Which of its count bits each meter has set: its number of neighbours.
+fn fill_counts(choices: &mut [u8], counts: &[u64], plan: &[u8])
+    requires { ⌜ Counted (now plan) (now counts) × (length (now choices) ≡ length (now plan)) ⌝ }
+    ensures { λ _. ⌜ now (choices .exit) ≡ countChoices (length (now (plan .entry))) (now (plan .entry)) ⌝ }
+{
+    let mut v: usize = 0;
+    while v < plan.len() {
+        let n = crate::plans::neighbours_at(counts, plan, v + 1);
+        choices[v] = n as u8;
+        v += 1;
+    }
+}
+
+// Puts the code of choices, n bits for each, in place of the bits from `start` on.
+fn encode_part(choices: &[u8], n: usize, start: usize, bits: &mut [u8])
+    requires { ⌜ ((v : ℕ) → v < length (now choices) → getD (now choices) v 0 ≤ n) × (start + length (now choices) * n ≤ length (now bits)) ⌝ }
+    ensures { λ _. ⌜ now (bits .exit) ≡ placed start (code n (now (choices .entry))) (now (bits .entry)) ⌝ }
+{
+    let end = start + choices.len() * n;
+    onehot::encode(choices, choices.len(), n, &mut bits[start..end]);
+}
+
+// The first part of the code: the depths, n bits for each meter.
+fn code_depths(choices: &mut [u8], plan: &[u8], meters: usize, n: usize, bits: &mut [u8])
+    requires { ⌜ (meters ≤ 48) × (length (now choices) ≡ meters) × ((v : ℕ) → v < meters → getD (depthChoices meters (now plan)) v 0 ≤ n) × (meters * n ≤ length (now bits)) ⌝ }
+    ensures choices { λ _. ⌜ now (choices .exit) ≡ depthChoices meters (now (plan .entry)) ⌝ }
+    ensures bits { λ _. ⌜ now (bits .exit) ≡ placed 0 (code n (depthChoices meters (now (plan .entry)))) (now (bits .entry)) ⌝ }
+{
+    fill_depths(choices, plan, meters);
+    encode_part(choices, n, 0, bits);
+}
+
+// The second part: the arcs, n bits for each, whatever the weights are.
+fn code_arcs(
+    choices: &mut [u8],
+    plan: &[u8],
+    us: &[u8],
+    vs: &[u8],
+    meters: usize,
+    n: usize,
+    start: usize,
+    bits: &mut [u8],
+)
+    requires { ⌜ (meters ≤ 48) × (length (now vs) ≡ length (now us)) × (length (now us) ≤ 256) × (length (now choices) ≡ 2 * length (now us)) ⌝ }
+    requires { ⌜ ((ws : List ℕ) (k : ℕ) → getD (arcChoices meters (linksOf (now us) (now vs) ws) (now plan)) k 0 ≤ n) × (start + 2 * length (now us) * n ≤ length (now bits)) ⌝ }
+    ensures choices { λ _. ⌜ ((ws : List ℕ) → now (choices .exit) ≡ arcChoices meters (linksOf (now (us .entry)) (now (vs .entry)) ws) (now (plan .entry))) ⌝ }
+    ensures bits { λ _. ⌜ ((ws : List ℕ) → now (bits .exit) ≡ placed start (code n (arcChoices meters (linksOf (now (us .entry)) (now (vs .entry)) ws) (now (plan .entry)))) (now (bits .entry))) ⌝ }
+{
+    fill_arcs(choices, plan, us, vs, meters);
+    encode_part(choices, n, start, bits);
+}
+
+// The third part: the numbers of neighbours, d bits for each meter.
+fn code_counts(choices: &mut [u8], plan: &[u8], d: usize, start: usize, bits: &mut [u8])
+    requires { ⌜ (length (now plan) ≤ 48) × (length (now choices) ≡ length (now plan)) × ((v : ℕ) → v < length (now plan) → getD (countChoices (length (now plan)) (now plan)) v 0 ≤ d) × (start + length (now plan) * d ≤ length (now bits)) ⌝ }
+    ensures choices { λ _. ⌜ now (choices .exit) ≡ countChoices (length (now (plan .entry))) (now (plan .entry)) ⌝ }
+    ensures bits { λ _. ⌜ now (bits .exit) ≡ placed start (code d (countChoices (length (now (plan .entry))) (now (plan .entry)))) (now (bits .entry)) ⌝ }
+{
+    let mut counts: [u64; 256] = [0; 256];
+    onehot::count_choices(&mut counts[..256], plan);
+    fill_counts(choices, &counts[..256], plan);
+    encode_part(choices, d, start, bits);
+}
+
+// The code of a plan: depths, arcs and numbers of neighbours.
+pub fn encode(
+    plan: &[u8],
+    us: &[u8],
+    vs: &[u8],
+    ws: &[u16],
+    meters: usize,
+    d: usize,
+    bits: &mut [u8],
+)
+    requires { ⌜ Arrays meters (now us) (now vs) (now ws) × (isPlan meters d (linksOf (now us) (now vs) (now ws)) (now plan) ≡ true) × (length (now bits) ≡ bitCount meters (length (now us)) d) ⌝ }
+    ensures { λ _. ⌜ now (bits .exit) ≡ codeOf meters d (linksOf (now (us .entry)) (now (vs .entry)) (now (ws .entry))) (now (plan .entry)) ⌝ }
+{
+    let deepest = meters / 2;
+    let first = meters * (deepest + 1);
+    let second = first + 2 * us.len() * deepest;
+    let mut depths: [u8; 256] = [0; 256];
+    let mut arcs: [u8; 512] = [0; 512];
+    let mut counts: [u8; 256] = [0; 256];
+    code_depths(&mut depths[..meters], plan, meters, deepest + 1, bits);
+    code_arcs(
+        &mut arcs[..2 * us.len()],
+        plan,
+        us,
+        vs,
+        meters,
+        deepest,
+        first,
+        bits,
+    );
+    code_counts(&mut counts[..meters], plan, d, second, bits);
+}
+
+// Adds the parent u of an arc to the entry of its child v, once for each of the arc's bits that is set; they are the D bits from `start` on.
+fn read_arc(bits: &[u8], start: usize, deepest: usize, u: u8, v: u8, plan: &mut [u8])
+    requires { ⌜ Bits (now bits) × (deepest ≤ 24) × (start + deepest ≤ length (now bits)) × (setFrom (now bits) start deepest ≤ 1) ⌝ }
+    requires { ⌜ (u ≤ 48) × (1 ≤ v) × (v ≤ length (now plan)) × ((k : ℕ) → getD (now plan) k 0 ≤ 48) ⌝ }
+    ensures { λ _. ⌜ now (plan .exit) ≡ added v (setFrom (now (bits .entry)) start deepest * u) (now (plan .entry)) ⌝ }
+{
+    let end = start + deepest;
+    let count = onehot::set_count(&bits[start..end]);
+    let at = (v as usize) - 1;
+    let sum = (plan[at] as usize) + count * (u as usize);
+    plan[at] = sum as u8;
+}
+
+// The parents read off the arcs, where no meter has more than one arc set into it.
+pub fn read_parents(
+    bits: &[u8],
+    us: &[u8],
+    vs: &[u8],
+    ws: &[u16],
+    meters: usize,
+    deepest: usize,
+    plan: &mut [u8],
+)
+    requires { ⌜ Arrays meters (now us) (now vs) (now ws) × (deepest ≤ 24) × Bits (now bits) × (arcsEnd meters deepest (length (now us)) ≤ length (now bits)) × (length (now plan) ≡ meters) × ((v : ℕ) → 1 ≤ v → v ≤ meters → sumOf (arcs (linksOf (now us) (now vs) (now ws))) (λ a. same (a .child) v * sumTo deepest (arcAt meters deepest (now bits) a)) ≤ 1) ⌝ }
+    ensures { λ _. ⌜ now (plan .exit) ≡ candidateTo deepest meters (linksOf (now (us .entry)) (now (vs .entry)) (now (ws .entry))) (now (bits .entry)) ⌝ }
+{
+    onehot::clear_bits(plan);
+    let ends = meters * (deepest + 1);
+    let mut k: usize = 0;
+    while k < us.len() {
+        let start = ends + 2 * k * deepest;
+        read_arc(bits, start, deepest, us[k], vs[k], plan);
+        read_arc(bits, start + deepest, deepest, vs[k], us[k], plan);
+        k += 1;
+    }
+}

@@ -1,0 +1,161 @@
+// Kind 3, tree: what document 01 asks of it, over the number of meters, the links as three arrays, and d.
+// Definitions are in specs/ here and in `spanning` and `arcs`; that the assignments below A are the codes of plans, and the lowest those of the best spanning trees within the neighbour limit where there is any, is proved in proofs/.
+ghost use Prim.Native.Nat.{ℕ, _+_, _-_, _≤_, _<_};
+ghost use mathlib.Core.Bool.{true};
+ghost use mathlib.Core.Path.{_≡_};
+ghost use mathlib.Core.List.{List, _++_};
+ghost use lib.ListN.{length, drop};
+ghost use Rattle.links.specs.Links.{Link, linksOf};
+ghost use Rattle.links.specs.Survey.{Arrays};
+ghost use Rattle.qubo.specs.Formula.{Assignment, value};
+ghost use Rattle.qubo.specs.Table.{constantOf, rowOf};
+ghost use Rattle.tree.specs.Formula.{withinLimits, bitCount, penalty, formula};
+ghost use Rattle.tree.specs.Plans.{isPlan, codeOf};
+ghost use Rattle.tree.specs.Decoding.{answerOf, planAfter};
+ghost use Rattle.tree.specs.Lent.{Lent};
+
+mod codes;
+mod plans;
+mod rows;
+mod sums;
+
+// The limits of d and of the number of meters, and the bit count.
+pub struct Tree;
+
+impl Tree {
+    pub const MIN: u64 = 1;
+
+    pub const MAX: u64 = 47;
+
+    // A single meter has no neighbour, so its neighbour term can't be met.
+    pub const FEWEST_METERS: u64 = 2;
+
+    // Whether d and the number of meters are within the limits.
+    pub fn allows(meters: u64, d: u64) -> bool
+        ensures { λ r. ⌜ r ≡ withinLimits meters d ⌝ }
+    {
+        if d < Tree::MIN {
+            return false;
+        }
+        if Tree::MAX < d {
+            return false;
+        }
+        Tree::FEWEST_METERS <= meters
+    }
+
+    // The number of bits.
+    pub fn bits(meters: usize, links: usize, d: usize) -> usize
+        requires { ⌜ (meters ≤ 48) × (links ≤ 256) × (d ≤ 47) ⌝ }
+        ensures { λ r. ⌜ (r ≡ bitCount meters links d) × (r ≤ 15744) ⌝ }
+    {
+        let deepest = meters / 2;
+        neighbours::counts::first_count(meters, deepest, links) + meters * d
+    }
+}
+
+// What bits decode to: a plan, with its tree's weight, or none. The plan itself lies in the lent buffer.
+pub enum Decoded {
+    Plan { weight: u64 },
+    NoPlan,
+}
+
+// A: 1 plus the sum of all weights, whatever their ends are.
+pub fn penalty_of(ws: &[u16]) -> u64
+    requires { ⌜ length (now ws) ≤ 256 ⌝ }
+    ensures { λ r. ⌜ ((us vs : List ℕ) → length (now (ws .entry)) ≡ length us → r ≡ penalty (linksOf us vs (now (ws .entry)))) ⌝ }
+{
+    1 + links::total_weight(ws)
+}
+
+// The constant of the table, whatever the links and d are: A for the single root, and A for the depth and for the number of neighbours of each meter.
+pub fn constant(meters: usize, penalty: u64) -> i64
+    requires { ⌜ (meters ≤ 48) × (penalty ≤ 20000000) ⌝ }
+    ensures { λ r. ⌜ ((d : ℕ) (ls : List Link) → r ≡ constantOf (formula penalty meters d ls)) ⌝ }
+{
+    let sum = penalty * (1 + 2 * (meters as u64));
+    sum as i64
+}
+
+// Row i of the table in front of the lent slice; the rest is unaltered.
+pub fn fill_row(
+    us: &[u8],
+    vs: &[u8],
+    ws: &[u16],
+    meters: usize,
+    d: usize,
+    penalty: u64,
+    i: usize,
+    out: &mut [i64],
+)
+    requires { ⌜ Lent meters d (now us) (now vs) (now ws) × (penalty ≤ 20000000) × (i < bitCount meters (length (now us)) d) × (bitCount meters (length (now us)) d ≤ i + length (now out)) ⌝ }
+    ensures { λ _. ⌜ now (out .exit) ≡ rowOf (formula penalty meters d (linksOf (now (us .entry)) (now (vs .entry)) (now (ws .entry)))) (bitCount meters (length (now (us .entry))) d) i ++ drop (bitCount meters (length (now (us .entry))) d - i) (now (out .entry)) ⌝ }
+{
+    let len = Tree::bits(meters, us.len(), d) - i;
+    rows::row_into(&mut out[..len], us, vs, ws, meters, d, penalty, i);
+}
+
+// The energy of an assignment, by the formula itself.
+pub fn energy(
+    bits: &[u8],
+    us: &[u8],
+    vs: &[u8],
+    ws: &[u16],
+    meters: usize,
+    d: usize,
+    penalty: u64,
+) -> i64
+    requires { ⌜ Lent meters d (now us) (now vs) (now ws) × (penalty ≤ 20000000) × Assignment (bitCount meters (length (now us)) d) (now bits) ⌝ }
+    ensures { λ r. ⌜ r ≡ value (formula penalty meters d (linksOf (now (us .entry)) (now (vs .entry)) (now (ws .entry)))) (now (bits .entry)) ⌝ }
+{
+    let broken = sums::broken_of(bits, us, vs, ws, meters, d);
+    let cost = arcs::sums::arc_cost(bits, us, vs, ws, meters, meters / 2);
+    let sum = penalty * broken + cost;
+    sum as i64
+}
+
+// Whether the bytes are a plan: parents that make a tree within the neighbour limit, with no depth over D.
+pub fn is_plan(plan: &[u8], us: &[u8], vs: &[u8], ws: &[u16], meters: usize, d: usize) -> bool
+    requires { ⌜ Arrays meters (now us) (now vs) (now ws) ⌝ }
+    ensures { λ r. ⌜ r ≡ isPlan meters d (linksOf (now (us .entry)) (now (vs .entry)) (now (ws .entry))) (now (plan .entry)) ⌝ }
+{
+    plans::is_plan(plan, us, vs, ws, meters, d)
+}
+
+// The code of a plan.
+pub fn encode(
+    plan: &[u8],
+    us: &[u8],
+    vs: &[u8],
+    ws: &[u16],
+    meters: usize,
+    d: usize,
+    bits: &mut [u8],
+)
+    requires { ⌜ Arrays meters (now us) (now vs) (now ws) × (isPlan meters d (linksOf (now us) (now vs) (now ws)) (now plan) ≡ true) × (length (now bits) ≡ bitCount meters (length (now us)) d) ⌝ }
+    ensures { λ _. ⌜ now (bits .exit) ≡ codeOf meters d (linksOf (now (us .entry)) (now (vs .entry)) (now (ws .entry))) (now (plan .entry)) ⌝ }
+{
+    codes::encode(plan, us, vs, ws, meters, d, bits);
+}
+
+// The plan that an assignment codes, if any: bits code a plan exactly where the six sums are 0, and it is then read off the arcs.
+pub fn decode(
+    bits: &[u8],
+    us: &[u8],
+    vs: &[u8],
+    ws: &[u16],
+    meters: usize,
+    d: usize,
+    plan: &mut [u8],
+) -> Decoded
+    requires { ⌜ Lent meters d (now us) (now vs) (now ws) × Assignment (bitCount meters (length (now us)) d) (now bits) × (length (now plan) ≡ meters) ⌝ }
+    ensures answer { λ r. ⌜ r ≡ answerOf meters d (linksOf (now (us .entry)) (now (vs .entry)) (now (ws .entry))) (now (bits .entry)) ⌝ }
+    ensures plan { λ r. ⌜ now (plan .exit) ≡ planAfter meters d (linksOf (now (us .entry)) (now (vs .entry)) (now (ws .entry))) (now (bits .entry)) (now (plan .entry)) ⌝ }
+{
+    if sums::broken_of(bits, us, vs, ws, meters, d) != 0 {
+        return Decoded::NoPlan;
+    }
+    let deep = meters / 2;
+    let weight = arcs::sums::arc_cost(bits, us, vs, ws, meters, deep);
+    codes::read_parents(bits, us, vs, ws, meters, deep, plan);
+    Decoded::Plan { weight: weight }
+}

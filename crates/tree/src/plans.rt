@@ -1,0 +1,119 @@
+// Whether bytes are a plan: one root, parents that are linked neighbours, no depth over D, and no meter with more than d neighbours.
+ghost use Prim.Native.Nat.{ℕ, _+_, _≤_, _<_};
+ghost use mathlib.Core.Path.{_≡_};
+ghost use mathlib.Core.List.{List};
+ghost use lib.ListN.{length};
+ghost use Rattle.lists.specs.Tests.{all, from};
+ghost use Rattle.lists.specs.Sums.{sumOf, same, nth};
+ghost use Rattle.links.specs.Links.{linksOf};
+ghost use Rattle.links.specs.Survey.{Arrays};
+ghost use Rattle.spanning.specs.Parents.{deepest, depthOf, atMost, neighbours};
+ghost use Rattle.tree.specs.Plans.{bitOfDepth, fewNeighbours, isPlan};
+ghost use Rattle.tree.specs.Stores.{Counted};
+
+// 1 where u is the parent of meter v, else 0.
+pub fn is_parent(plan: &[u8], u: u8, v: u8) -> usize
+    ensures { λ r. ⌜ r ≡ same (nth (now (plan .entry)) v) u ⌝ }
+{
+    if spanning::parent_of(plan, v as usize) == (u as usize) {
+        return 1;
+    }
+    0
+}
+
+// How many links join a meter to its parent, whatever their weights are.
+fn parent_links(plan: &[u8], us: &[u8], vs: &[u8]) -> usize
+    requires { ⌜ (length (now vs) ≡ length (now us)) × (length (now us) ≤ 256) ⌝ }
+    ensures { λ r. ⌜ ((ws : List ℕ) → r ≡ sumOf (linksOf (now (us .entry)) (now (vs .entry)) ws) (λ l. same (nth (now (plan .entry)) (l .u)) (l .v) + same (nth (now (plan .entry)) (l .v)) (l .u))) ⌝ }
+{
+    let mut count: usize = 0;
+    let mut k: usize = 0;
+    while k < us.len() {
+        let up = is_parent(plan, vs[k], us[k]);
+        let down = is_parent(plan, us[k], vs[k]);
+        count += up + down;
+        k += 1;
+    }
+    count
+}
+
+// Which of its depth bits meter v has set, from 1: 1 more than its depth, and 0 in a ring of parents.
+pub fn depth_bit(plan: &[u8], v: usize, meters: usize) -> usize
+    ensures { λ r. ⌜ (r ≡ bitOfDepth (depthOf (now (plan .entry)) meters v)) × (r ≤ meters) ⌝ }
+{
+    let depth = spanning::depth_of(plan, v, meters);
+    match depth {
+        spanning::Depth::At(h) => h + 1,
+        spanning::Depth::Ring => 0,
+    }
+}
+
+// Whether no depth exceeds D; a ring of parents has no depth.
+fn depths_within(plan: &[u8], meters: usize) -> bool
+    requires { ⌜ meters ≤ 48 ⌝ }
+    ensures { λ r. ⌜ r ≡ all (λ v. atMost (deepest meters) (depthOf (now (plan .entry)) meters v)) (from 1 meters) ⌝ }
+{
+    let last = meters / 2 + 1;
+    let mut v: usize = 0;
+    while v < meters {
+        let b = depth_bit(plan, v + 1, meters);
+        if b == 0 {
+            return false;
+        }
+        if last < b {
+            return false;
+        }
+        v += 1;
+    }
+    true
+}
+
+// How many neighbours meter v has in the tree: its children, and its parent if it has one.
+pub fn neighbours_at(counts: &[u64], plan: &[u8], v: usize) -> u64
+    requires { ⌜ Counted (now plan) (now counts) × (v < 256) ⌝ }
+    ensures { λ r. ⌜ (r ≡ neighbours (length (now (plan .entry))) (now (plan .entry)) v) × (r ≤ 49) ⌝ }
+{
+    let children = counts[v];
+    if spanning::parent_of(plan, v) == 0 {
+        return children;
+    }
+    children + 1
+}
+
+// Whether nobody has more than d neighbours.
+fn within_limit(counts: &[u64], plan: &[u8], d: usize) -> bool
+    requires { ⌜ Counted (now plan) (now counts) ⌝ }
+    ensures { λ r. ⌜ r ≡ fewNeighbours (length (now (plan .entry))) d (now (plan .entry)) ⌝ }
+{
+    let mut v: usize = 0;
+    while v < plan.len() {
+        let n = neighbours_at(counts, plan, v + 1) as usize;
+        if d < n {
+            return false;
+        }
+        v += 1;
+    }
+    true
+}
+
+// Whether the bytes are a plan. With one root, all parents are linked neighbours exactly where meters - 1 links join a meter to its parent.
+pub fn is_plan(plan: &[u8], us: &[u8], vs: &[u8], ws: &[u16], meters: usize, d: usize) -> bool
+    requires { ⌜ Arrays meters (now us) (now vs) (now ws) ⌝ }
+    ensures { λ r. ⌜ r ≡ isPlan meters d (linksOf (now (us .entry)) (now (vs .entry)) (now (ws .entry))) (now (plan .entry)) ⌝ }
+{
+    if plan.len() != meters {
+        return false;
+    }
+    let mut counts: [u64; 256] = [0; 256];
+    onehot::count_choices(&mut counts[..256], plan);
+    if counts[0] != 1 {
+        return false;
+    }
+    if parent_links(plan, us, vs) != meters - 1 {
+        return false;
+    }
+    if !depths_within(plan, meters) {
+        return false;
+    }
+    within_limit(&counts[..256], plan, d)
+}
