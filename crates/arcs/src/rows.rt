@@ -1,4 +1,4 @@
-// What depths and arcs add to row i. The place of bit i tells which terms hold it: at most two walks over the links add them.
+// What depths and arcs add to row i, family by family. The place of bit i tells which terms of a family hold it: at most two walks over the links add them.
 ghost use Prim.Native.Nat.{ℕ, suc, pred, _+_, _*_, _≤_, _<_, _^_};
 ghost use mathlib.Core.Path.{_≡_};
 ghost use mathlib.Core.List.{[], _∷_};

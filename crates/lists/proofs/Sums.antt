@@ -3,7 +3,7 @@ use Prim.Native.Nat.{ℕ, zero, suc, _+_, _-_, _*_, _≤_, _<_, max}
 use mathlib.Core.Path.{_≡_, refl, sym, ap, ap₂, _∙_}
 use mathlib.Core.Logic.{_⊎_, inl, inr, ⊎-elim}
 use mathlib.Core.List.{List, [], _∷_, _++_}
-use lib.ListN.{length, getD, List·getD-append}
+use lib.ListN.{length, getD, List·getD-append, List·getD-eq-default}
 use lib.Seq.{getD-append-seam}
 use native.Mathlib.Omega.{arith}
 use native.Mathlib.Decide.{ℕ-discrete, decLe}
@@ -399,6 +399,17 @@ pub nth-index : (l : List ℕ) (m : ℕ) → 1 ≤ m → nth l m ≡ getD l (m -
 unfolding nth
 nth-index l zero h = absurd (omega arith)
 nth-index l (suc k) h = let e : suc k - 1 ≡ k = omega arith in rw e refl
+
+-- there is no entry 0
+pub nth-zero : (l : List ℕ) → nth l 0 ≡ 0
+unfolding nth
+nth-zero l = refl
+
+-- nor one past the end
+pub nth-past : (l : List ℕ) (k : ℕ) → length l < k → nth l k ≡ 0
+unfolding nth
+nth-past l zero h = refl
+nth-past l (suc k) h = let g : length l ≤ k = omega arith in rw (List·getD-eq-default l 0 g) refl
 
 pub nth-suc : (l : List ℕ) (k : ℕ) → nth l (suc k) ≡ getD l k 0
 unfolding nth

@@ -2,29 +2,21 @@
 use Prim.Native.Nat.{ℕ, zero, suc, _+_, _*_, _≤_, _<_}
 use mathlib.Core.Path.{_≡_, refl, _∙_}
 use mathlib.Core.List.{List}
-use lib.ListN.{length, getD, set, length-set, List·getD-eq-default}
+use lib.ListN.{length, getD, set, length-set}
 use native.Mathlib.Omega.{arith}
 use native.Mathlib.Decide.{ℕ-discrete, decLe}
 use native.Mathlib.Numerals.{add-one}
 use native.Mathlib.Nat.{mul-zero, add-zero}
 use Rattle.lists.specs.Sums.{nth}
-use Rattle.lists.proofs.Sums.{nth-suc, times-bit}
+use Rattle.lists.proofs.Sums.{nth-zero, nth-past, nth-suc, times-bit}
 use Rattle.lists.proofs.Stores.{added-here, added-elsewhere}
 use Rattle.qubo.specs.Formula.{Bits}
 
 -- ---- entries of a part, counted from 1
 
 module _ (part : List ℕ) where
-  pub nth-zero : nth part 0 ≡ 0
-  unfolding nth
-  nth-zero = refl
-
-  pub nth-past : (j : ℕ) → length part < j → nth part j ≡ 0
-  nth-past zero h = absurd (omega arith)
-  nth-past (suc k) h = nth-suc part k ∙ List·getD-eq-default part 0 (omega arith)
-
   pub nth-bit : Bits part → (j : ℕ) → nth part j ≤ 1
-  nth-bit b zero = omega (arith, nth-zero)
+  nth-bit b zero = omega (arith, nth-zero part)
   nth-bit b (suc k) = rw (nth-suc part k) (b k)
 
 -- ---- w added for each choice of a part that is set

@@ -6,12 +6,13 @@ use mathlib.Core.List.{List}
 use native.Mathlib.Decide.{decLe, ℕ-discrete}
 use native.Mathlib.Omega.{arith}
 use Rattle.lists.specs.Sums.{nth}
+use Rattle.lists.proofs.Sums.{nth-zero}
 use Rattle.links.specs.Links.{Link}
 use Rattle.spanning.specs.Spanning.{Linked}
 use Rattle.spanning.proofs.Ranges.{all-or-not}
 use Rattle.spanning.proofs.Shape.{linked-flip}
 use Rattle.spanning.proofs.Chains.{up, up-zero, up-last, up-more, up-le, last-of, ends-within, two-chains}
-use Rattle.spanning.proofs.Rooted.{withParent, nth-zero, with-length, with-same, with-other, Below, Rooted, parent-le, is-root}
+use Rattle.spanning.proofs.Rooted.{withParent, with-length, with-same, with-other, Below, Rooted, parent-le, is-root}
 
 -- ---- chains when the root moves
 

@@ -9,13 +9,14 @@ use native.Mathlib.Decide.{ℕ-discrete, decLe}
 use native.Mathlib.Omega.{arith}
 use Rattle.lists.specs.Tests.{all}
 use Rattle.lists.specs.Sums.{nth}
+use Rattle.lists.proofs.Sums.{nth-zero}
 use Rattle.lists.proofs.Stores.{zero-entries}
 use Rattle.links.specs.Links.{Link, linkOk}
 use Rattle.spanning.specs.Spanning.{Linked, Reach, stay, go}
 use Rattle.spanning.proofs.Shape.{linked-flip}
 use Rattle.spanning.proofs.Depths.{linked-in}
 use Rattle.spanning.proofs.Chains.{up, up-more, ends-within}
-use Rattle.spanning.proofs.Rooted.{withParent, nth-zero, with-length, with-same, with-other, Rooted}
+use Rattle.spanning.proofs.Rooted.{withParent, with-length, with-same, with-other, Rooted}
 
 -- ---- a tree that grows
 

@@ -1,25 +1,18 @@
 -- The depth step by step, as the code of src/ goes up the parents. Assumes nothing.
-use Prim.Native.Nat.{ℕ, zero, suc, _-_, _≤_, _<_}
+use Prim.Native.Nat.{ℕ, zero, suc, _-_, _<_}
 use mathlib.Core.Path.{_≡_, refl, ap, _∙_}
 use mathlib.Core.List.{List}
 use native.Mathlib.Omega.{arith}
-use lib.ListN.{length, List·getD-eq-default}
 use Rattle.lists.specs.Sums.{nth}
 use Rattle.spanning.specs.Parents.{deeper, under, depthOf}
 use Rattle.spanning.specs.declared.Depth.{Depth}
 use Rattle.spanning.specs.declared.Depth.the-variants.{At, Ring}
 
--- ---- the parent of a meter past the end is none
-
+-- meter 0 has no parent
 pub nth-none : (p : List ℕ) (v : ℕ) → v ≡ 0 → 0 ≡ nth p v
 unfolding nth
 nth-none p zero e = refl
 nth-none p (suc k) e = absurd (let z : ⊥ = omega arith in z)
-
-pub nth-past : (p : List ℕ) (v : ℕ) → length p < v → 0 ≡ nth p v
-unfolding nth
-nth-past p zero h = refl
-nth-past p (suc k) h = let g : length p ≤ k = omega arith in rw (List·getD-eq-default p 0 g) refl
 
 -- ---- one step up
 

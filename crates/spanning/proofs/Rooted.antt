@@ -8,7 +8,7 @@ use lib.Seq.{getD-set-same, getD-set-other}
 use native.Mathlib.Decide.{ℕ-discrete}
 use native.Mathlib.Omega.{arith}
 use Rattle.lists.specs.Sums.{same, nth}
-use Rattle.lists.proofs.Sums.{same-yes, same-no, sumTo-eq, sumTo-same}
+use Rattle.lists.proofs.Sums.{nth-zero, same-yes, same-no, sumTo-eq, sumTo-same}
 use Rattle.links.specs.Links.{Link}
 use Rattle.spanning.specs.declared.Depth.the-variants.{At}
 use Rattle.spanning.specs.Parents.{depthOf, rootsOf}
@@ -23,11 +23,6 @@ use Rattle.spanning.proofs.Chains.{up}
 pub withParent : List ℕ → ℕ → ℕ → List ℕ
 withParent p zero u = p
 withParent p (suc i) u = set p i u
-
--- 0 has no parent
-pub nth-zero : (p : List ℕ) → nth p 0 ≡ 0
-unfolding nth
-nth-zero p = refl
 
 -- as many as before
 pub with-length : (p : List ℕ) (v u : ℕ) → length (withParent p v u) ≡ length p

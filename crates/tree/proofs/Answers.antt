@@ -25,8 +25,8 @@ unfolding deepest
 bits-few N M d n m e = rw (← add-one (N / 2)) (omega (arith, first-small N n, second-small N M n m, counts-few N d n e))
 
 -- k is the number of the bits of depths and arcs, as the code computes it
-pub bits-are : (N M d k : ℕ) → N ≤ 48 → d ≤ 47 → (k ≡ arcsEnd N (deepest N) M) × (k ≤ 13488) → (k + N * d ≡ bitCount N M d) × (k + N * d ≤ 15744)
-bits-are N M d k n e h = (ap (λ (t : ℕ). t + N * d) (h .0), omega (arith, h .1, counts-few N d n e))
+pub count-is : (N M d k : ℕ) → N ≤ 48 → d ≤ 47 → (k ≡ arcsEnd N (deepest N) M) × (k ≤ 13488) → (k + N * d ≡ bitCount N M d) × (k + N * d ≤ 15744)
+count-is N M d k n e h = (ap (λ (t : ℕ). t + N * d) (h .0), omega (arith, h .1, counts-few N d n e))
 
 -- ---- penalty_of
 

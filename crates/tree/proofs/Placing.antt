@@ -12,6 +12,7 @@ use native.Mathlib.Numerals.{add-one}
 use borrow.Author.Tests.{eqb-true, leb-true}
 use Rattle.lists.specs.Tests.{all}
 use Rattle.lists.specs.Sums.{nth}
+use Rattle.lists.proofs.Sums.{nth-past}
 use Rattle.lists.proofs.Tests.{and-left, and-right, every-at, all-from}
 use Rattle.links.specs.Links.{Link}
 use Rattle.onehot.specs.Choices.{code}
@@ -20,7 +21,7 @@ use Rattle.spanning.specs.Parents.{deepest, depthOf, atMost, isRooted, neighbou
 use Rattle.spanning.specs.declared.Depth.{Depth}
 use Rattle.spanning.specs.declared.Depth.the-variants.{At, Ring}
 use Rattle.spanning.proofs.Depths.{depth-root}
-use Rattle.spanning.proofs.Recursion.{nth-none, nth-past, depth-none}
+use Rattle.spanning.proofs.Recursion.{nth-none, depth-none}
 use Rattle.arcs.specs.Arcs.{arcs}
 use Rattle.arcs.proofs.Slices.{depths-few, arcs-few}
 use Rattle.tree.specs.Formula.{bitCount}
@@ -100,7 +101,7 @@ module _ (N d : ℕ) (ls : List Link) (p : List ℕ) (e : isPlan N d ls p ≡ tr
   arcDepth-in : (v : ℕ) → arcDepth (depthOf p N v) ≤ deepest N
   arcDepth-in v =
       elim (decLe 1 v) [
-        | yes a ↦ elim (decLe v N) [ yes b ↦ depth-bit-in (deepest N) (depthOf p N v) (depth-in v a b) .1 | no b ↦ rootless (nth-past p v (omega (arith, plan-length))) ]
+        | yes a ↦ elim (decLe v N) [ yes b ↦ depth-bit-in (deepest N) (depthOf p N v) (depth-in v a b) .1 | no b ↦ rootless (sym (nth-past p v (omega (arith, plan-length)))) ]
         | no a ↦ rootless (nth-none p v (omega arith))
       ]
     where

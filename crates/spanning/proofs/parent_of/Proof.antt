@@ -2,8 +2,8 @@ use Prim.Native.Nat.{_-_}
 use mathlib.Core.Path.{sym}
 use native.Mathlib.Omega.{arith}
 use borrow.Author.Needs.{needs}
-use Rattle.lists.proofs.Sums.{nth-index}
-use Rattle.spanning.proofs.Recursion.{nth-none, nth-past}
+use Rattle.lists.proofs.Sums.{nth-index, nth-past}
+use Rattle.spanning.proofs.Recursion.{nth-none}
 use Rattle.spanning.proofs.parent_of.Statement.{statement}
 use Rattle.spanning.proofs.parent_of.Tie as tie
 
@@ -29,7 +29,7 @@ returns-2 c = sym (nth-index _ _ (omega arith))
 
 -- src/lib.rt:13:1
 returns-3 : tie.Need-returns-3
-returns-3 c = nth-past _ _ (omega arith)
+returns-3 c = sym (nth-past _ _ (omega arith))
 
 pub parent-of-spec : {M : Type 1} → statement M
 parent-of-spec =

@@ -1,7 +1,7 @@
 use native.Mathlib.Omega.{arith}
 use Rattle.spanning.specs.Parents.{deepest}
 use Rattle.neighbours.proofs.DegreeSums.{counts-few}
-use Rattle.tree.proofs.Answers.{bits-are}
+use Rattle.tree.proofs.Answers.{count-is}
 use Rattle.tree.proofs.Tree.bits.Statement.{statement}
 use Rattle.tree.proofs.Tree.bits.Tie as tie
 
@@ -16,7 +16,7 @@ add-result c = omega (arith, counts-few _ _ (c .before .pre .0) (c .before .pre 
 
 returns : tie.Need-returns
 unfolding deepest
-returns c = bits-are _ _ _ _ (c .before .pre .0) (c .before .pre .2) (c .first-count .ensures)
+returns c = count-is _ _ _ _ (c .before .pre .0) (c .before .pre .2) (c .first-count .ensures)
 
 pub bits-spec : {M : Type 1} → statement M
 bits-spec = tie.close (tie.spec first-count-requires mul-result add-result returns)
