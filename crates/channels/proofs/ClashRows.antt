@@ -6,10 +6,14 @@ use lib.ListN.{length, getD}
 use lib.IntN.{ℤ, pos}
 use native.Mathlib.Omega.{arith}
 use native.Mathlib.Nat.{mod-lt}
+use mir.Syntax.{w64}
+use mir.Val.{toZ}
+use mir.Facts.{toZ-pos}
 use Rattle.links.specs.Links.{Link, linkIn, linksOf}
 use Rattle.links.specs.Survey.{LinkOf}
 use Rattle.links.proofs.Arrays.{arrays-at}
 use Rattle.links.proofs.Halving.{ends-rise}
+use Rattle.links.proofs.Walk.{link-at}
 use Rattle.qubo.specs.Formula.{Formula}
 use Rattle.qubo.specs.Norm.{formulaNorm}
 use Rattle.qubo.specs.Terms.{pair}
@@ -107,6 +111,16 @@ module _ (N n i : ℕ) (us vs ws : List ℕ) (lent : Lent N n us vs ws) where
           added-turn next a =
               walked-turn _ (clashesAt n us vs ws) _ _ _ (left-next (linkClashes n) us vs ws) (left-none (linkClashes n) us vs ws) row₀ row k h w next
               (link-pair N n i (lent .low) (linkIn us vs ws k) (arrays-at N us vs ws (lent .arrays) k h) e row ∙ sym a)
+
+          -- the same of the weight as the code has it, a signed number
+          weight-is : toZ w64 (getD ws k 0) ≡ pos (getD ws k 0)
+          weight-is = toZ-pos w64 (omega (arith, link-at N us vs ws (lent .arrays) k h))
+
+          pub weight-room : Room (2 ^ 61) (pair (toZ w64 (getD ws k 0)) i (i + (getD vs k 0 - (i / n + 1)) * n) ∷ []) row
+          weight-room = rw weight-is turn-room
+
+          pub weight-turn : (next : List ℤ) → next ≡ addTerms (pair (toZ w64 (getD ws k 0)) i (i + (getD vs k 0 - (i / n + 1)) * n) ∷ []) i row → Added n i us vs ws row₀ next (k + 1)
+          weight-turn next a = added-turn next (rw weight-is at a)
 
 -- ---- row_into: zeros, then the penalty, then the clashes
 

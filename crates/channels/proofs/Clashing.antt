@@ -1,5 +1,5 @@
 -- Sums over the links: what a link adds to the clash weight of a plan, and to what clashes in an assignment. Assumes nothing.
-use Prim.Native.Nat.{ℕ, _-_, _*_, _≤_, _<_}
+use Prim.Native.Nat.{ℕ, _+_, _-_, _*_, _≤_, _<_}
 use mathlib.Core.Path.{_≡_, refl}
 use mathlib.Core.List.{List}
 use lib.ListN.{length, getD}
@@ -7,6 +7,7 @@ use Rattle.lists.specs.Sums.{sumOf, same}
 use Rattle.lists.proofs.Sums.{same-yes, same-no, same-le}
 use Rattle.links.specs.Links.{Link, linkIn}
 use Rattle.links.specs.Survey.{Survey, Arrays}
+use Rattle.links.proofs.Walk.{Summed, summed-turn, summed-skip}
 use Rattle.qubo.specs.Formula.{Bits}
 use Rattle.onehot.specs.Choices.{bitAt}
 use Rattle.onehot.proofs.Turns.{bit-bit}
@@ -30,6 +31,14 @@ module _ (N : ℕ) (p us vs ws : List ℕ) (a : Arrays N us vs ws) (k : ℕ) (h 
 
   pub clash-no : (getD p (getD us k 0 - 1) 0 ≡ getD p (getD vs k 0 - 1) 0 → ⊥) → 0 ≡ planLink same p (linkIn us vs ws k)
   clash-no e = plan-no same N p us vs ws a k h (same-no _ _ e)
+
+  -- a turn of the sum, which then is `next`
+  module _ (sum next : ℕ) (s : Summed us vs ws (planLink same p) k sum) where
+    pub clash-turn : getD p (getD us k 0 - 1) 0 ≡ getD p (getD vs k 0 - 1) 0 → next ≡ sum + getD ws k 0 → Summed us vs ws (planLink same p) (k + 1) next
+    clash-turn e d = rw d (summed-turn us vs ws (planLink same p) k sum s (getD ws k 0) h (clash-yes e))
+
+    pub clash-skip : (getD p (getD us k 0 - 1) 0 ≡ getD p (getD vs k 0 - 1) 0 → ⊥) → next ≡ sum → Summed us vs ws (planLink same p) (k + 1) next
+    clash-skip e d = rw d (summed-skip us vs ws (planLink same p) k sum s h (clash-no e))
 
 -- ---- what clashes in an assignment
 

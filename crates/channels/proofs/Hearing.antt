@@ -126,6 +126,17 @@ module _ (N n : ℕ) (x p us vs ws : List ℕ) (lent : Lent N n us vs ws) (bits 
     so-far = λ i a b. summed-skip us vs ws (hears (bears n x p) m i) k (getD s i 0) (g .so-far i a b) h (hears-none (bears n x p) m i (linkIn us vs ws k) e d);
   }
 
+  -- the same of sums that are the ones after the turn
+  module _ (kept : List ℕ) where
+    pub kept-up : getD us k 0 ≡ m → (t : List ℕ) → kept ≡ t → BorneAdded n x p (getD vs k 0) (getD ws k 0) s t → HeardSoFar n x p us vs ws m (k + 1) kept
+    kept-up e t d b = rw d (heard-up t e b)
+
+    pub kept-down : (getD us k 0 ≡ m → ⊥) → getD vs k 0 ≡ m → (t : List ℕ) → kept ≡ t → BorneAdded n x p (getD us k 0) (getD ws k 0) s t → HeardSoFar n x p us vs ws m (k + 1) kept
+    kept-down e f t d b = rw d (heard-down t e f b)
+
+    pub kept-none : (getD us k 0 ≡ m → ⊥) → (getD vs k 0 ≡ m → ⊥) → kept ≡ s → HeardSoFar n x p us vs ws m (k + 1) kept
+    kept-none e f d = rw d (heard-none e f)
+
 -- ---- least_sum: the place of 1..i whose sum is least
 
 pub leastOf : List ℕ → ℕ → ℕ

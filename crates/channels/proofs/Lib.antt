@@ -6,7 +6,6 @@ pub mod Repaired
 pub mod Asking
 pub mod AnyPenalty
 pub mod Demands
-pub mod Worked
 pub mod Gathering
 pub mod Clashing
 pub mod ClashRows

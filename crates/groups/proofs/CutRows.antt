@@ -5,11 +5,15 @@ use mathlib.Core.List.{List, [], _∷_}
 use lib.ListN.{length, getD}
 use lib.IntN.{ℤ, pos}
 use native.Mathlib.Omega.{arith}
+use mir.Syntax.{w64}
+use mir.Val.{toZ}
+use mir.Facts.{toZ-pos}
 use native.Mathlib.Nat.{add-mul, mod-lt, div-add-mod', mul-le-mul-right}
 use Rattle.links.specs.Links.{Link, linkIn, linksOf}
 use Rattle.links.specs.Survey.{LinkOf}
 use Rattle.links.proofs.Arrays.{arrays-at}
 use Rattle.links.proofs.Halving.{ends-rise}
+use Rattle.links.proofs.Walk.{link-at}
 use Rattle.qubo.specs.Formula.{Formula}
 use Rattle.qubo.specs.Norm.{formulaNorm}
 use Rattle.qubo.specs.Terms.{unequal}
@@ -153,3 +157,19 @@ module _ (N m i : ℕ) (us vs ws : List ℕ) (lent : Lent N m us vs ws) where
 
         pub added-none : (getD us k 0 ≡ i / m + 1 → ⊥) → (getD vs k 0 ≡ i / m + 1 → ⊥) → Added m i us vs ws row₀ row (k + 1)
         added-none nu nv = turn row (other-nothing k h nu nv row)
+
+        -- the same of the weight as the code has it, a signed number, and of a row that is the next one
+        weight-is : toZ w64 (getD ws k 0) ≡ pos (getD ws k 0)
+        weight-is = toZ-pos w64 (omega (arith, link-at N us vs ws (lent .arrays) k h))
+
+        pub weight-room : (p q : ℕ) → Room (2 ^ 61) (unequal (toZ w64 (getD ws k 0)) p q ∷ []) row
+        weight-room p q = rw weight-is (term-room p q)
+
+        pub kept-up : getD us k 0 ≡ i / m + 1 → (kept next : List ℤ) → kept ≡ next → next ≡ addTerms (unequal (toZ w64 (getD ws k 0)) i (i + (getD vs k 0 - getD us k 0) * m) ∷ []) i row → Added m i us vs ws row₀ kept (k + 1)
+        kept-up e kept next d a = added-up e kept (d ∙ (rw weight-is at a))
+
+        pub kept-down : getD vs k 0 ≡ i / m + 1 → (kept next : List ℤ) → kept ≡ next → next ≡ addTerms (unequal (toZ w64 (getD ws k 0)) (i - (getD vs k 0 - getD us k 0) * m) i ∷ []) i row → Added m i us vs ws row₀ kept (k + 1)
+        kept-down e kept next d a = added-down e kept (d ∙ (rw weight-is at a))
+
+        pub kept-none : (getD us k 0 ≡ i / m + 1 → ⊥) → (getD vs k 0 ≡ i / m + 1 → ⊥) → (kept : List ℤ) → kept ≡ row → Added m i us vs ws row₀ kept (k + 1)
+        kept-none nu nv kept d = rw d (added-none nu nv)

@@ -7,7 +7,6 @@ pub mod AnyPenalty
 pub mod Dealt
 pub mod Asking
 pub mod Demands
-pub mod Worked
 pub mod SizeRows
 pub mod Answers
 pub mod Cutting

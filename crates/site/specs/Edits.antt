@@ -31,8 +31,12 @@ unfoldable pub beginBytes : ℕ → List ℕ
 beginBytes n = chained (RECORDS - 1) (setWord (set (zeros SIZE) metersAt n) freeAt 1)
 
 -- 1: "begin: length only"; 7: "begin: N outside 1..48"
+abbrev pub beginTests : List ℕ → ℕ → List (ℕ × Bool)
+beginTests s n = (1, not (eqb (length s) SIZE)) ∷ (7, ltb n 1 || ltb METERS n) ∷ []
+
+-- what begin returns
 unfoldable pub beginRefusal : List ℕ → ℕ → ℕ
-beginRefusal s n = refusal ((1, not (eqb (length s) SIZE)) ∷ (7, ltb n 1 || ltb METERS n) ∷ [])
+beginRefusal s n = refusal (beginTests s n)
 
 -- what begin leaves
 unfoldable pub beginImage : List ℕ → ℕ → List ℕ
@@ -64,15 +68,18 @@ place s a b = placeFrom s a b RECORDS 0
 -- ---- add
 
 -- in the order of the table: 1, 2, 3 "0", 4 "that link is there", 6 "no record is free"
-unfoldable pub addRefusal : List ℕ → ℕ → ℕ → ℕ → ℕ
-addRefusal s a b w =
-    refusal
-    ((1, not (valid s))
+abbrev pub addTests : List ℕ → ℕ → ℕ → ℕ → List (ℕ × Bool)
+addTests s a b w =
+    (1, not (valid s))
     ∷ (2, badEnds (meters s) a b)
     ∷ (3, eqb w 0)
     ∷ (4, present (low a b) (high a b) (links s))
     ∷ (6, eqb (firstFree s) 0)
-    ∷ [])
+    ∷ []
+
+-- what add returns
+unfoldable pub addRefusal : List ℕ → ℕ → ℕ → ℕ → ℕ
+addRefusal s a b w = refusal (addTests s a b w)
 
 -- "Add takes the first free record and puts the link in its ordered place", here with a < b: the record leaves the free chain, is counted and written, and is named by the one before it
 unfoldable pub addBytes : List ℕ → ℕ → ℕ → ℕ → List ℕ
@@ -90,13 +97,12 @@ addImage s a b w = unlessRefused (addRefusal s a b w) (addBytes s (low a b) (hig
 -- ---- remove
 
 -- in the order of the table: 1, 2, 5 "no such link"
+abbrev pub removeTests : List ℕ → ℕ → ℕ → List (ℕ × Bool)
+removeTests s a b = (1, not (valid s)) ∷ (2, badEnds (meters s) a b) ∷ (5, not (present (low a b) (high a b) (links s))) ∷ []
+
+-- what remove returns
 unfoldable pub removeRefusal : List ℕ → ℕ → ℕ → ℕ
-removeRefusal s a b =
-    refusal
-    ((1, not (valid s))
-    ∷ (2, badEnds (meters s) a b)
-    ∷ (5, not (present (low a b) (high a b) (links s)))
-    ∷ [])
+removeRefusal s a b = refusal (removeTests s a b)
 
 -- "Remove makes the record the first free one": it is cleared, and the one before it names the one after it
 unfoldable pub removeBytes : List ℕ → ℕ → ℕ → List ℕ

@@ -1,15 +1,23 @@
-// Makes the calls of `site` that the papers work through and many others, and prints the numbers that they return, so that the compiled library is compared with a stored file. The file was not copied
+// Makes the calls that the papers work through and many others, and prints the numbers that they return, so that the compiled library is compared with a stored file. The file was not copied
 // from a run: its lines were worked out from the papers, and the counts of the random edits by a separate model of the papers.
+mod answers;
+mod bests;
 mod broken;
 mod calls;
 mod copies;
+mod digits;
 mod edits;
 mod filling;
+mod inputs;
 mod lines;
 mod matrix;
+mod numbers;
 mod random;
 mod readings;
+mod refusals;
+mod sites;
 mod trials;
+mod worked;
 
 // Each part makes its own images, and they can be read in any order.
 fn main() {
@@ -17,4 +25,6 @@ fn main() {
     filling::show();
     broken::show();
     trials::show();
+    worked::show();
+    refusals::show();
 }

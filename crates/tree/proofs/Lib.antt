@@ -1,5 +1,4 @@
 pub mod Trial
-pub mod Worked
 pub mod Answers
 pub mod Asking
 pub mod Arcs

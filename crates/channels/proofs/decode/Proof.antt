@@ -1,20 +1,23 @@
 use mathlib.Core.Path.{ap, _∙_}
-use borrow.Author.Needs.{needs}
 use Rattle.channels.specs.Plans.{clashWeight}
 use Rattle.channels.proofs.decode.Statement.{statement}
 use Rattle.channels.proofs.decode.Tie as tie
 
 repair-all-requires : tie.Need-repair-all-requires
-repair-all-requires c κs = search needs
+repair-all-requires c κs = c .before .before .before .before .before .before .pre
 
 clash-weight-requires : tie.Need-clash-weight-requires
-clash-weight-requires c κs = search needs
+clash-weight-requires c κs =
+    let s = c .before .before .before .before .before .before .before .before .before .before in
+    (s .pre .0 .arrays, c .before .before .before .repair-all .kept .1 .1 .1 .1 .1 .1 .0 ∙ s .pre .2)
 
 repaired-count-requires : tie.Need-repaired-count-requires
-repaired-count-requires c κs = search needs
+repaired-count-requires c κs =
+    let s = c .before .before .before .before .before .before .before .before .before .before .before in
+    (s .pre .0 .arrays .survey .meters-high, s .pre .0 .high, s .pre .1)
 
 same-length : tie.Need-same-length
-same-length c = search needs
+same-length c = c .before .before .before .before .before .repair-all .kept .1 .1 .1 .1 .1 .1 .0
 
 returns : tie.Need-returns
 returns c = (c .before .before .before .before .before .repair-all .ensures, (c .before .clash-weight .ensures ∙ ap (clashWeight _) (c .before .before .before .before .before .repair-all .ensures), c .repaired-count .ensures))

@@ -1,11 +1,13 @@
+use mathlib.Core.Path.{_∙_}
 use native.Mathlib.Omega.{arith}
-use borrow.Author.Needs.{needs}
 use Rattle.groups.proofs.Answers.{decode-none, decode-plan}
 use Rattle.groups.proofs.decode.Statement.{statement}
 use Rattle.groups.proofs.decode.Tie as tie
 
 bracket-of-requires : tie.Need-bracket-of-requires
-bracket-of-requires c κs = search needs
+bracket-of-requires c κs =
+    let s = c .before .before .before .before .before in
+    (s .pre .0 .arrays .survey .meters-high, s .pre .0 .high, s .pre .1)
 
 returns : tie.Need-returns
 returns c =
@@ -13,13 +15,17 @@ returns c =
     decode-none _ _ (s .pre .0 .low) _ (s .pre .1) _ _ _ (c .before .bracket-of .ensures .0) (omega arith)
 
 read-off-requires : tie.Need-read-off-requires
-read-off-requires c κs = search needs
+read-off-requires c κs =
+    let s = c .before .before .before .before .before .before .before .before in
+    (s .pre .0 .arrays .survey .meters-high, s .pre .0 .high, s .pre .1 .size, s .pre .2)
 
 cut-weight-requires : tie.Need-cut-weight-requires
-cut-weight-requires c κs = search needs
+cut-weight-requires c κs =
+    let s = c .before .before .before .before .before .before .before .before .before .before .before .before in
+    (s .pre .0 .arrays, c .before .before .before .read-off .kept .1 .1 .1 .0 ∙ s .pre .2)
 
 same-length : tie.Need-same-length
-same-length c = search needs
+same-length c = c .before .before .before .before .read-off .kept .1 .1 .1 .0
 
 returns-2 : tie.Need-returns-2
 returns-2 c =

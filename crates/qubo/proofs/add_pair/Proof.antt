@@ -12,10 +12,10 @@ use Rattle.qubo.proofs.add_pair.Statement.{statement}
 use Rattle.qubo.proofs.add_pair.Tie as tie
 
 add-to-own-requires : tie.Need-add-to-own-requires
-add-to-own-requires c κs = search needs
+add-to-own-requires c κs = let s = c .before .before in (s .pre .1, record { room = rw (toZ-ofZ (s .fits .v)) (s .pre .2 .room) })
 
 add-to-own-requires-2 : tie.Need-add-to-own-requires-2
-add-to-own-requires-2 c κs = search needs
+add-to-own-requires-2 c κs = let s = c .before .before .before in (s .pre .0, record { room = rw (toZ-ofZ (s .fits .v)) (s .pre .2 .room) })
 
 same-length : tie.Need-same-length
 same-length c = search needs

@@ -18,7 +18,7 @@ add-single-requires c κs =
     (omega (arith, s .pre .1), rw (toZ-ofZ (s .fits .v)) (unequal-single (s .args .v) (s .args .p) (s .args .q) (s .args .row .now) (s .pre .2) (s .args .i)))
 
 add-own-unequal-requires : tie.Need-add-own-unequal-requires
-add-own-unequal-requires c κs = search needs
+add-own-unequal-requires c κs = let s = c .before .before .before in (omega (arith, s .pre .0), s .pre .1, record { room = rw (toZ-ofZ (s .fits .v)) (s .pre .2 .room) })
 
 same-length : tie.Need-same-length
 same-length c = search needs

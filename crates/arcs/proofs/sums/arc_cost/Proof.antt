@@ -103,7 +103,9 @@ loop-again c =
     let l = c .before .before .before .before .before .loop in
     let a = c .before .before .before .arc-start in
     let n = c .before .set-count in
-    (omega arith, omega (arith, cost-small (s .args .meters) (s .args .deepest) (s .args .bits .now) (s .args .us .now) (s .args .vs .now) (s .args .ws .now) (l .k) (a .result) (n .result) (a .ensures .0) (omega (arith, link-within (s .args .meters) (s .args .deepest) (length (s .args .us .now)) (l .k) (omega arith), s .pre .2)) (n .ensures) (s .pre .0 .deep) (s .pre .1) (link-at (s .args .meters) (s .args .us .now) (s .args .vs .now) (s .args .ws .now) (s .pre .0 .arrays) (l .k) (omega arith) .4)), summed-turn (s .args .us .now) (s .args .vs .now) (s .args .ws .now) (costOf (s .args .meters) (s .args .deepest) (s .args .bits .now)) (l .k) (l .sum) (l .inv .2) (getD (s .args .ws .now) (l .k) 0 * n .result) (omega arith) (cost-link (s .args .meters) (s .args .deepest) (s .args .bits .now) (s .args .us .now) (s .args .vs .now) (s .args .ws .now) (l .k) (a .result) (n .result) (a .ensures .0) (omega (arith, link-within (s .args .meters) (s .args .deepest) (length (s .args .us .now)) (l .k) (omega arith), s .pre .2)) (n .ensures)))
+    let h = c .before .before .before .before .loop-test .taken in
+    let fit : a .result + 2 * s .args .deepest ≤ length (s .args .bits .now) = omega (arith, a .ensures .0, link-within (s .args .meters) (s .args .deepest) (length (s .args .us .now)) (l .k) h, s .pre .2) in
+    (omega (arith, h), omega (arith, cost-small (s .args .meters) (s .args .deepest) (s .args .bits .now) (s .args .us .now) (s .args .vs .now) (s .args .ws .now) (l .k) (a .result) (n .result) (a .ensures .0) fit (n .ensures) (s .pre .0 .deep) (s .pre .1) (link-at (s .args .meters) (s .args .us .now) (s .args .vs .now) (s .args .ws .now) (s .pre .0 .arrays) (l .k) h .4)), summed-turn (s .args .us .now) (s .args .vs .now) (s .args .ws .now) (costOf (s .args .meters) (s .args .deepest) (s .args .bits .now)) (l .k) (l .sum) (l .inv .2) (getD (s .args .ws .now) (l .k) 0 * n .result) h (cost-link (s .args .meters) (s .args .deepest) (s .args .bits .now) (s .args .us .now) (s .args .vs .now) (s .args .ws .now) (l .k) (a .result) (n .result) (a .ensures .0) fit (n .ensures)))
 
 returns : tie.Need-returns Inv-loop μ-loop
 returns c =

@@ -96,7 +96,8 @@ loop-again c =
     let l = c .before .before .before .before .before .loop in
     let up = c .before .arc-misses in
     let back = c .arc-misses2 in
-    (omega arith, omega (arith, up .ensures .1, back .ensures .1), summed-turn (s .args .us .now) (s .args .vs .now) (s .args .ws .now) (missesOf (s .args .meters) (s .args .deepest) (s .args .bits .now)) (l .k) (l .sum) (l .inv .2) (up .result + back .result) (omega arith) (misses-link (s .args .meters) (s .args .deepest) (s .args .bits .now) (s .args .us .now) (s .args .vs .now) (s .args .ws .now) (l .k) (up .result) (back .result) (up .ensures .0) (back .ensures .0)))
+    let h = c .before .before .before .before .loop-test .taken in
+    (omega (arith, h), omega (arith, up .ensures .1, back .ensures .1), summed-turn (s .args .us .now) (s .args .vs .now) (s .args .ws .now) (missesOf (s .args .meters) (s .args .deepest) (s .args .bits .now)) (l .k) (l .sum) (l .inv .2) (up .result + back .result) h (misses-link (s .args .meters) (s .args .deepest) (s .args .bits .now) (s .args .us .now) (s .args .vs .now) (s .args .ws .now) (l .k) (up .result) (back .result) (up .ensures .0) (back .ensures .0)))
 
 returns : tie.Need-returns Inv-loop μ-loop
 returns c =

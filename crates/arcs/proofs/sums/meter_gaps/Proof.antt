@@ -62,7 +62,8 @@ part-gaps-requires c κs =
     let s = c .before .before .before .before .before .before .before in
     let l = c .before .before .before .before .loop in
     let p = c .before .before .depth-start in
-    gaps-room (s .args .deepest) (l .v) (s .args .bits .now) (s .args .counts .now) (p .result) (p .ensures .0) (omega (arith, meter-within (s .args .deepest) (l .v + 1) (s .args .meters) (omega arith) (omega arith))) (omega (arith, meter-within (s .args .deepest) (l .v + 1) (s .args .meters) (omega arith) (omega arith), depths-few (s .args .meters) (s .args .deepest) (s .pre .0) (s .pre .1), s .pre .4)) (s .pre .1) (s .pre .2) (s .pre .5)
+    let mw = meter-within (s .args .deepest) (l .v + 1) (s .args .meters) (omega arith) (omega (arith, c .before .before .before .loop-test .taken)) in
+    gaps-room (s .args .deepest) (l .v) (s .args .bits .now) (s .args .counts .now) (p .result) (p .ensures .0) (omega (arith, mw)) (omega (arith, mw, depths-few (s .args .meters) (s .args .deepest) (s .pre .0) (s .pre .1), s .pre .4)) (s .pre .1) (s .pre .2) (s .pre .5)
 
 add-sum : tie.Need-add-sum Inv-loop μ-loop
 add-sum c = omega arith
@@ -78,7 +79,8 @@ loop-again c =
     let s = c .before .before .before .before .before .before .before .before in
     let l = c .before .before .before .before .before .loop in
     let p = c .before .before .before .depth-start in
-    omega (arith, c .part-gaps .ensures .1, meters-next (s .args .deepest) (l .v) (s .args .bits .now) (s .args .counts .now) (p .result) (p .ensures .0) (omega (arith, meter-within (s .args .deepest) (l .v + 1) (s .args .meters) (omega arith) (omega arith))) (omega (arith, meter-within (s .args .deepest) (l .v + 1) (s .args .meters) (omega arith) (omega arith), depths-few (s .args .meters) (s .args .deepest) (s .pre .0) (s .pre .1), s .pre .4)) (c .part-gaps .result) (c .part-gaps .ensures .0))
+    let mw = meter-within (s .args .deepest) (l .v + 1) (s .args .meters) (omega arith) (omega (arith, c .before .before .before .before .loop-test .taken)) in
+    omega (arith, c .part-gaps .ensures .1, meters-next (s .args .deepest) (l .v) (s .args .bits .now) (s .args .counts .now) (p .result) (p .ensures .0) (omega (arith, mw)) (omega (arith, mw, depths-few (s .args .meters) (s .args .deepest) (s .pre .0) (s .pre .1), s .pre .4)) (c .part-gaps .result) (c .part-gaps .ensures .0))
 
 returns : tie.Need-returns Inv-loop μ-loop
 returns c =

@@ -4,10 +4,10 @@ use mathlib.Core.Logic.{⊎-elim}
 use lib.ListN.{length}
 use native.Mathlib.Omega.{arith}
 use Rattle.links.specs.Links.{linksOf}
-use Rattle.links.proofs.Walk.{link-at, Summed, summed-start, summed-turn, summed-skip, summed-end}
+use Rattle.links.proofs.Walk.{link-at, Summed, summed-start, summed-end}
 use Rattle.lists.specs.Sums.{same}
 use Rattle.onehot.proofs.LinkSums.{planLink}
-use Rattle.channels.proofs.Clashing.{clash-sum, clash-small, clash-yes, clash-no}
+use Rattle.channels.proofs.Clashing.{clash-sum, clash-small, clash-turn, clash-skip}
 use Rattle.channels.proofs.clashes.clash_weight.Statement.{statement}
 use Rattle.channels.proofs.clashes.clash_weight.Tie as tie
 
@@ -78,9 +78,10 @@ loop-again : tie.Need-loop-again Inv-loop μ-loop
 loop-again c =
     let l = c .before .before .before .before .before .before .loop in
     let s = c .before .before .before .before .before .before .before in
+    let h = c .before .before .before .before .before .loop-test .taken in
     ⊎-elim
-    (λ w. rw (w .2) (summed-turn _ _ _ _ _ _ (l .inv) _ (omega arith) (clash-yes _ _ _ _ _ (s .pre .0) _ (omega arith) (omega (arith, w .0 .taken)))))
-    (λ w. rw (w .1) (summed-skip _ _ _ _ _ _ (l .inv) (omega arith) (clash-no _ _ _ _ _ (s .pre .0) _ (omega arith) (λ e. omega (arith, w .0 .left)))))
+    (λ w. clash-turn _ _ _ _ _ (s .pre .0) _ h _ _ (l .inv) (w .0 .taken) (w .2))
+    (λ w. clash-skip _ _ _ _ _ (s .pre .0) _ h _ _ (l .inv) (w .0 .left) (w .1))
     (c .if1 .came)
 
 returns : tie.Need-returns Inv-loop μ-loop

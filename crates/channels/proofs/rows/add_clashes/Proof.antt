@@ -1,15 +1,12 @@
-use mathlib.Core.Path.{refl, _∙_}
 use Prim.Native.Nat.{_-_, _≤_}
 use native.Mathlib.Omega.{arith}
 use native.Mathlib.Nat.{div-le-self}
-use mir.Syntax.{w64}
-use mir.Facts.{toZ-pos}
-use lib.ListN.{length, getD}
+use lib.ListN.{length}
 use Rattle.links.proofs.Halving.{ends-rise}
 use Rattle.links.proofs.Walk.{arrays-few}
 use Rattle.qubo.proofs.Turns.{fits-abs}
 use Rattle.onehot.proofs.Ends.{bits-few}
-use Rattle.channels.proofs.ClashRows.{Added, added-first, added-turn, added-stop, added-all, turn-inside, turn-room}
+use Rattle.channels.proofs.ClashRows.{Added, added-first, added-stop, added-all, turn-inside, weight-room, weight-turn}
 use Rattle.channels.proofs.rows.add_clashes.Statement.{statement}
 use Rattle.channels.proofs.rows.add_clashes.Tie as tie
 
@@ -104,7 +101,7 @@ add-pair-requires c κs =
     let t = turn-inside _ _ _ _ _ _ (s .pre .0 .0) _ h e .1 in (
       omega (arith, w .size, s .pre .0 .1, s .pre .0 .2),
       omega (arith, t, w .size, s .pre .0 .1),
-      rw (toZ-pos w64 {n = getD (s .args .ws .now) (l .k) 0} (omega (arith, c .shared-slice-known6 .given (l .k)))) (turn-room _ _ _ _ _ _ (s .pre .0 .0) _ _ _ w h e),
+      weight-room _ _ _ _ _ _ (s .pre .0 .0) _ _ _ w h e,
     )
 
 add-k : tie.Need-add-k Inv-loop μ-loop
@@ -122,7 +119,7 @@ loop-again c =
     let h = c .before .before .before .before .before .before .before .loop-test .taken in
     let e = c .before .before .before .before .before .if1 .left in (
       omega (arith, l .inv .0),
-      added-turn _ _ _ _ _ _ (s .pre .0 .0) _ _ _ (l .inv .1) h e _ (c .before .add-pair .ensures ∙ rw (toZ-pos w64 {n = getD (s .args .ws .now) (l .k) 0} (omega (arith, c .before .before .shared-slice-known6 .given (l .k)))) refl),
+      weight-turn _ _ _ _ _ _ (s .pre .0 .0) _ _ _ (l .inv .1) h e _ (c .before .add-pair .ensures),
     )
 
 same-length-2 : tie.Need-same-length-2 Inv-loop μ-loop

@@ -3,7 +3,7 @@ use mathlib.Core.Logic.{⊎-elim}
 use lib.ListN.{length, getD}
 use native.Mathlib.Omega.{arith}
 use Rattle.links.proofs.Walk.{link-at}
-use Rattle.channels.proofs.Hearing.{HeardSoFar, heard-start, heard-room, heard-up, heard-down, heard-none, heard-end}
+use Rattle.channels.proofs.Hearing.{HeardSoFar, heard-start, heard-room, kept-up, kept-down, kept-none, heard-end}
 use Rattle.channels.proofs.silent.gather_heard.Statement.{statement}
 use Rattle.channels.proofs.silent.gather_heard.Tie as tie
 
@@ -69,11 +69,12 @@ loop-again : tie.Need-loop-again Inv-loop μ-loop
 loop-again c =
     let s = c .before .before .before .before .before .before .before .before .before .before .before .before in
     let l = c .before .before .before .before .before .loop in
+    let h = c .before .before .before .before .loop-test .taken in
     ⊎-elim
-    (λ w. rw (w .5) (heard-up _ _ _ _ _ _ _ (s .pre .0) (s .pre .1) _ _ (omega arith) _ (l .inv) _ (w .0 .taken) (w .2 .ensures)))
+    (λ w. kept-up _ _ _ _ _ _ _ (s .pre .0) (s .pre .1) _ _ h _ (l .inv) _ (w .0 .taken) _ (w .5) (w .2 .ensures))
     (⊎-elim
-    (λ w. rw (w .6) (heard-down _ _ _ _ _ _ _ (s .pre .0) (s .pre .1) _ _ (omega arith) _ (l .inv) _ (w .0 .left) (w .1 .taken) (w .3 .ensures)))
-    (λ w. rw (w .2) (heard-none _ _ _ _ _ _ _ (s .pre .0) (s .pre .1) _ _ (omega arith) _ (l .inv) (w .0 .left) (w .1 .left))))
+    (λ w. kept-down _ _ _ _ _ _ _ (s .pre .0) (s .pre .1) _ _ h _ (l .inv) _ (w .0 .left) (w .1 .taken) _ (w .6) (w .3 .ensures))
+    (λ w. kept-none _ _ _ _ _ _ _ (s .pre .0) (s .pre .1) _ _ h _ (l .inv) _ (w .0 .left) (w .1 .left) (w .2)))
     (c .if1 .came)
 
 same-length : tie.Need-same-length Inv-loop μ-loop

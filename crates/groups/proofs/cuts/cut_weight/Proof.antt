@@ -4,10 +4,10 @@ use mathlib.Core.Logic.{⊎-elim}
 use lib.ListN.{length}
 use native.Mathlib.Omega.{arith}
 use Rattle.links.specs.Links.{linksOf}
-use Rattle.links.proofs.Walk.{link-at, Summed, summed-start, summed-turn, summed-skip, summed-end}
+use Rattle.links.proofs.Walk.{link-at, Summed, summed-start, summed-end}
 use Rattle.lists.specs.Sums.{differ}
 use Rattle.onehot.proofs.LinkSums.{planLink}
-use Rattle.groups.proofs.Cutting.{cut-sum, cut-small, cut-yes, cut-no}
+use Rattle.groups.proofs.Cutting.{cut-sum, cut-small, cut-turn, cut-skip}
 use Rattle.groups.proofs.cuts.cut_weight.Statement.{statement}
 use Rattle.groups.proofs.cuts.cut_weight.Tie as tie
 
@@ -78,9 +78,10 @@ loop-again : tie.Need-loop-again Inv-loop μ-loop
 loop-again c =
     let l = c .before .before .before .before .before .before .loop in
     let s = c .before .before .before .before .before .before .before in
+    let h = c .before .before .before .before .before .loop-test .taken in
     ⊎-elim
-    (λ w. rw (w .2) (summed-turn _ _ _ _ _ _ (l .inv) _ (omega arith) (cut-yes _ _ _ _ _ (s .pre .0) _ (omega arith) (w .0 .taken))))
-    (λ w. rw (w .1) (summed-skip _ _ _ _ _ _ (l .inv) (omega arith) (cut-no _ _ _ _ _ (s .pre .0) _ (omega arith) (w .0 .left))))
+    (λ w. cut-turn _ _ _ _ _ (s .pre .0) _ h _ _ (l .inv) (w .0 .taken) (w .2))
+    (λ w. cut-skip _ _ _ _ _ (s .pre .0) _ h _ _ (l .inv) (w .0 .left) (w .1))
     (c .if1 .came)
 
 returns : tie.Need-returns Inv-loop μ-loop

@@ -1,15 +1,12 @@
 use Prim.Native.Nat.{_-_}
-use mathlib.Core.Path.{refl, _∙_}
 use mathlib.Core.Logic.{⊎-elim}
-use lib.ListN.{length, getD}
+use lib.ListN.{length}
 use native.Mathlib.Omega.{arith}
 use native.Mathlib.Nat.{div-le-self}
-use mir.Syntax.{w64}
-use mir.Facts.{toZ-pos}
 use Rattle.links.proofs.Walk.{link-at, arrays-few}
 use Rattle.qubo.proofs.Turns.{fits-abs}
 use Rattle.onehot.proofs.Ends.{bits-few}
-use Rattle.groups.proofs.CutRows.{Added, added-start, added-all, added-stop, added-up, added-down, added-none, upper-inside, below-inside, term-room}
+use Rattle.groups.proofs.CutRows.{Added, added-start, added-all, added-stop, kept-up, kept-down, kept-none, upper-inside, below-inside, weight-room}
 use Rattle.groups.proofs.rows.add_cuts.Statement.{statement}
 use Rattle.groups.proofs.rows.add_cuts.Tie as tie
 
@@ -83,7 +80,7 @@ add-unequal-requires c κs =
     let t = upper-inside _ _ _ _ _ _ (s .pre .0 .0) _ h (c .before .before .if2 .taken) in (
       omega (arith, t .0),
       omega (arith, t .1, l .inv .size, s .pre .0 .1),
-      rw (toZ-pos w64 {n = getD (s .args .ws .now) (l .k) 0} (omega (arith, c .shared-slice-known6 .given (l .k)))) (term-room _ _ _ _ _ _ (s .pre .0 .0) _ _ _ (l .inv) h _ _),
+      weight-room _ _ _ _ _ _ (s .pre .0 .0) _ _ _ (l .inv) h _ _,
     )
 
 sub-add-unequal-2 : tie.Need-sub-add-unequal-2 Inv-loop μ-loop
@@ -115,7 +112,7 @@ add-unequal-requires-2 c κs =
     let t = below-inside _ _ _ _ _ _ (s .pre .0 .0) _ h (c .before .before .if3 .taken) in (
       omega (arith, t .0, t .1),
       omega (arith, l .inv .size, s .pre .0 .1, s .pre .0 .2),
-      rw (toZ-pos w64 {n = getD (s .args .ws .now) (l .k) 0} (omega (arith, c .shared-slice-known7 .given (l .k)))) (term-room _ _ _ _ _ _ (s .pre .0 .0) _ _ _ (l .inv) h _ _),
+      weight-room _ _ _ _ _ _ (s .pre .0 .0) _ _ _ (l .inv) h _ _,
     )
 
 add-k : tie.Need-add-k Inv-loop μ-loop
@@ -130,10 +127,10 @@ loop-again c =
     let l = c .before .before .before .before .before .loop in
     let h = c .before .before .before .before .loop-test .taken in
     ⊎-elim
-    (λ w. rw (w .5) (added-up _ _ _ _ _ _ (s .pre .0 .0) _ _ _ (l .inv) h (w .0 .taken) _ (w .3 .ensures ∙ rw (toZ-pos w64 {n = getD (s .args .ws .now) (l .k) 0} (omega (arith, w .2 .given (l .k)))) refl)))
+    (λ w. kept-up _ _ _ _ _ _ (s .pre .0 .0) _ _ _ (l .inv) h (w .0 .taken) _ _ (w .5) (w .3 .ensures))
     (λ v. ⊎-elim
-    (λ w. rw (w .6) (added-down _ _ _ _ _ _ (s .pre .0 .0) _ _ _ (l .inv) h (w .1 .taken) _ (w .4 .ensures ∙ rw (toZ-pos w64 {n = getD (s .args .ws .now) (l .k) 0} (omega (arith, w .3 .given (l .k)))) refl)))
-    (λ w. rw (w .2) (added-none _ _ _ _ _ _ (s .pre .0 .0) _ _ _ (l .inv) h (w .0 .left) (w .1 .left)))
+    (λ w. kept-down _ _ _ _ _ _ (s .pre .0 .0) _ _ _ (l .inv) h (w .1 .taken) _ _ (w .6) (w .4 .ensures))
+    (λ w. kept-none _ _ _ _ _ _ (s .pre .0 .0) _ _ _ (l .inv) h (w .0 .left) (w .1 .left) _ (w .2))
     v)
     (c .if2 .came)
 

@@ -1,3 +1,5 @@
+use Prim.Native.Nat.{ℕ, _+_, _*_}
+use mathlib.Core.Path.{ap₂}
 use Rattle.site.specs.Layout.{word, byte}
 use native.Mathlib.Omega.{arith}
 use borrow.Author.Needs.{needs}
@@ -30,7 +32,7 @@ add-result c = omega arith
 
 returns : tie.Need-returns
 unfolding word byte
-returns c = ((cc), omega arith)
+returns c = (ap₂ (λ (x y : ℕ). x + 256 * y) (c .before .before .wide .ensures .0) (c .wide2 .ensures .0), omega arith)
 
 pub read-word-spec : {M : Type 1} → statement M
 read-word-spec =

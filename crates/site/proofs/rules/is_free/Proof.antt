@@ -1,3 +1,6 @@
+use mathlib.Core.Path.{ap, _∙_}
+use mathlib.Core.Bool.{_&&_}
+use lib.Dec.{eqb}
 use borrow.Author.Needs.{needs}
 use Rattle.site.proofs.rules.is_free.Statement.{statement}
 use Rattle.site.proofs.rules.is_free.Tie as tie
@@ -15,7 +18,9 @@ both-requires-3 : tie.Need-both-requires-3
 both-requires-3 c κs = search needs
 
 returns : tie.Need-returns
-returns c = cc
+returns c =
+    let r = c .before .before .before .before .before .before .before .args .r in
+    c .both3 .ensures ∙ ap (_&&_ (eqb (r .u) 0)) (c .before .both2 .ensures ∙ ap (_&&_ (eqb (r .v) 0)) (c .before .before .both .ensures))
 
 pub is-free-spec : {M : Type 1} → statement M
 is-free-spec = tie.close (tie.spec both-requires both-requires-2 both-requires-3 returns)

@@ -4,18 +4,17 @@ use lib.Seq.{length-take-le}
 use Rattle.links.proofs.Walk.{arrays-few}
 use Rattle.links.proofs.Arrays.{length-linksOf}
 use Rattle.tree.proofs.Placing.{plan-length, depths-in, arcs-in, counts-in, first-small, second-small, bits-are, bits-end, code-whole}
-use borrow.Author.Needs.{needs}
 use Rattle.tree.proofs.codes.encode.Statement.{statement}
 use Rattle.tree.proofs.codes.encode.Tie as tie
 
 add-first : tie.Need-add-first
-add-first c = search needs
+add-first c = omega (arith, c .before .before .before .before .before .pre .0 .survey .meters-high)
 
 mul-first : tie.Need-mul-first
 mul-first c = omega (arith, first-small _ (c .before .before .before .before .before .pre .0 .survey .meters-high))
 
 mul-second : tie.Need-mul-second
-mul-second c = search needs
+mul-second c = omega (arith, arrays-few _ _ _ _ (c .before .before .before .before .before .pre .0))
 
 mul-second-2 : tie.Need-mul-second-2
 mul-second-2 c = let s = c .before .before .before .before .before in omega (arith, second-small _ _ (s .pre .0 .survey .meters-high) (arrays-few _ _ _ _ (s .pre .0)))
@@ -24,13 +23,13 @@ add-second : tie.Need-add-second
 add-second c = let s = c .before .before .before .before .before in omega (arith, first-small _ (s .pre .0 .survey .meters-high), second-small _ _ (s .pre .0 .survey .meters-high) (arrays-few _ _ _ _ (s .pre .0)))
 
 array-borrow-prefix-depths : tie.Need-array-borrow-prefix-depths
-array-borrow-prefix-depths c = search needs
+array-borrow-prefix-depths c = omega (arith, c .before .before .before .before .before .pre .0 .survey .meters-high)
 
 slice-aggregate-code-depths : tie.Need-slice-aggregate-code-depths
 slice-aggregate-code-depths c = sym (length-take-le _ _ (omega (arith, c .before .before .before .before .before .before .pre .0 .survey .meters-high)))
 
 add-code-depths : tie.Need-add-code-depths
-add-code-depths c = search needs
+add-code-depths c = omega (arith, c .before .before .before .before .before .before .pre .0 .survey .meters-high)
 
 code-depths-requires : tie.Need-code-depths-requires
 code-depths-requires c κs =
@@ -42,7 +41,7 @@ code-depths-requires c κs =
     )
 
 mul-arcs : tie.Need-mul-arcs
-mul-arcs c = search needs
+mul-arcs c = omega (arith, arrays-few _ _ _ _ (c .before .before .before .before .before .before .before .before .before .before .before .pre .0))
 
 array-borrow-prefix-arcs : tie.Need-array-borrow-prefix-arcs
 array-borrow-prefix-arcs c = omega (arith, arrays-few _ _ _ _ (c .before .before .before .before .before .before .before .before .before .before .before .pre .0))
@@ -58,7 +57,7 @@ code-arcs-requires c κs =
     )
 
 array-borrow-prefix-counts : tie.Need-array-borrow-prefix-counts
-array-borrow-prefix-counts c = search needs
+array-borrow-prefix-counts c = omega (arith, c .before .before .before .before .before .before .before .before .before .before .before .before .before .before .before .before .before .pre .0 .survey .meters-high)
 
 slice-aggregate-code-counts : tie.Need-slice-aggregate-code-counts
 slice-aggregate-code-counts c = sym (length-take-le _ _ (omega (arith, c .before .before .before .before .before .before .before .before .before .before .before .before .before .before .before .before .before .before .pre .0 .survey .meters-high)))
@@ -74,7 +73,7 @@ code-counts-requires c κs =
     )
 
 same-length : tie.Need-same-length
-same-length c = search needs
+same-length c = c .before .before .before .code-counts .kept .1 .1 .1 .1 .0 ∙ (c .before .before .before .before .before .before .before .before .before .code-arcs .kept .1 .1 .1 .1 .1 .1 .1 .0 ∙ c .before .before .before .before .before .before .before .before .before .before .before .before .before .before .before .code-depths .kept .1 .1 .1 .1 .0)
 
 returns : tie.Need-returns
 returns c =

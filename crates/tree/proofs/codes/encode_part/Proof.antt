@@ -1,3 +1,5 @@
+use mathlib.Core.Path.{refl}
+use Rattle.arcs.proofs.Slices.{slice-length}
 use Rattle.tree.proofs.Placing.{placed-part}
 use borrow.Author.Needs.{needs}
 use Rattle.tree.proofs.codes.encode_part.Statement.{statement}
@@ -19,7 +21,7 @@ part-encode-end : tie.Need-part-encode-end
 part-encode-end c = search needs
 
 encode-requires : tie.Need-encode-requires
-encode-requires c κs = search needs
+encode-requires c κs = let s = c .before .before .before in (refl, s .pre .0, slice-length _ _ _ _ refl (s .pre .1))
 
 same-length : tie.Need-same-length
 same-length c = search needs

@@ -59,11 +59,11 @@ shared-slice-read-read-arc-2 c = omega (arith, c .before .before .before .before
 
 read-arc-requires : tie.Need-read-arc-requires Inv-loop μ-loop
 read-arc-requires c κs =
-    let s = c .before .before .before .before .before .before .before .before .before .before .before .before .before .before in
-    let r = readable _ _ _ _ _ _ _ (s .pre) in
+    let r = readable _ _ _ _ _ _ _ (c .before .before .before .before .before .before .before .before .before .before .before .before .before .before .pre) in
     let l = c .before .before .before .before .loop in
-    let f = link-at _ _ _ _ (s .pre .0) (l .k) (omega arith) in (
-      first-asks _ _ _ _ _ _ r (l .k) (omega arith) _ (l .inv .1),
+    let h = c .before .before .before .loop-test .taken in
+    let f = link-at _ _ _ _ (r .arrays) (l .k) h in (
+      first-asks _ _ _ _ _ _ r (l .k) h _ (l .inv .1),
       (omega (arith, f, r .arrays .survey .meters-high), omega (arith, f), omega (arith, f, l .inv .1 .size), entries-small _ _ _ _ _ _ r _ _ (l .inv .1)),
     )
 
@@ -82,12 +82,12 @@ shared-slice-read-read-arc-4 c = omega arith
 
 read-arc-requires-2 : tie.Need-read-arc-requires-2 Inv-loop μ-loop
 read-arc-requires-2 c κs =
-    let s = c .before .before .before .before .before .before .before .before .before .before .before .before .before .before .before .before .before .before .before .before in
-    let r = readable _ _ _ _ _ _ _ (s .pre) in
+    let r = readable _ _ _ _ _ _ _ (c .before .before .before .before .before .before .before .before .before .before .before .before .before .before .before .before .before .before .before .before .pre) in
     let l = c .before .before .before .before .before .before .before .before .before .before .loop in
-    let f = link-at _ _ _ _ (s .pre .0) (l .k) (omega arith) in
-    let i = first-turn _ _ _ _ _ _ r (l .k) (omega arith) _ (l .inv .1) _ (c .before .before .before .before .before .read-arc .ensures) in (
-      second-asks _ _ _ _ _ _ r (l .k) (omega arith) _ i,
+    let h = c .before .before .before .before .before .before .before .before .before .loop-test .taken in
+    let i = first-turn _ _ _ _ _ _ r (l .k) h _ (l .inv .1) _ (c .before .before .before .before .before .read-arc .ensures) in
+    let f = link-at _ _ _ _ (r .arrays) (l .k) h in (
+      second-asks _ _ _ _ _ _ r (l .k) h _ i,
       (omega (arith, f, r .arrays .survey .meters-high), omega (arith, f), omega (arith, f, i .size), entries-small _ _ _ _ _ _ r _ _ i),
     )
 
@@ -99,10 +99,10 @@ loop-less c = omega arith
 
 loop-again : tie.Need-loop-again Inv-loop μ-loop
 loop-again c =
-    let s = c .before .before .before .before .before .before .before .before .before .before .before .before .before .before .before .before .before .before .before .before .before .before .before in
-    let r = readable _ _ _ _ _ _ _ (s .pre) in
+    let r = readable _ _ _ _ _ _ _ (c .before .before .before .before .before .before .before .before .before .before .before .before .before .before .before .before .before .before .before .before .before .before .before .pre) in
     let l = c .before .before .before .before .before .before .before .before .before .before .before .before .before .loop in
-    (omega arith, second-turn _ _ _ _ _ _ r (l .k) (omega arith) _ (first-turn _ _ _ _ _ _ r (l .k) (omega arith) _ (l .inv .1) _ (c .before .before .before .before .before .before .before .before .read-arc .ensures)) _ (c .before .before .read-arc2 .ensures))
+    let h = c .before .before .before .before .before .before .before .before .before .before .before .before .loop-test .taken in
+    (omega (arith, h), second-turn _ _ _ _ _ _ r (l .k) h _ (first-turn _ _ _ _ _ _ r (l .k) h _ (l .inv .1) _ (c .before .before .before .before .before .before .before .before .read-arc .ensures)) _ (c .before .before .read-arc2 .ensures))
 
 same-length : tie.Need-same-length Inv-loop μ-loop
 same-length c = c .before .loop .inv .1 .size ∙ sym (c .before .before .before .before .before .before .before .before .before .before .before .pre .4)

@@ -13,7 +13,7 @@ returns : tie.Need-returns
 returns c = plan-size _ _ _ _ (c .if1 .taken)
 
 slice-aggregate-count-choices : tie.Need-slice-aggregate-count-choices
-slice-aggregate-count-choices c = search needs
+slice-aggregate-count-choices c = refl
 
 count-choices-requires : tie.Need-count-choices-requires
 count-choices-requires c κs =
@@ -33,7 +33,7 @@ parent-links-requires : tie.Need-parent-links-requires
 parent-links-requires c κs = let s = c .before .before .before .before .before .before .before .before .before in (s .pre .same-v, arrays-few _ _ _ _ (s .pre))
 
 sub-if3 : tie.Need-sub-if3
-sub-if3 c = search needs
+sub-if3 c = c .before .before .before .before .before .before .before .before .before .before .pre .survey .meters-low
 
 returns-3 : tie.Need-returns-3
 returns-3 c =
@@ -43,7 +43,7 @@ returns-3 c =
     plan-unlinked _ _ _ _ size root (s .pre .survey) _ (c .before .parent-links .ensures _) (λ e. omega (arith, c .if3 .taken, s .pre .survey .meters-low))
 
 depths-within-requires : tie.Need-depths-within-requires
-depths-within-requires c κs = search needs
+depths-within-requires c κs = c .before .before .before .before .before .before .before .before .before .before .before .pre .survey .meters-high
 
 returns-4 : tie.Need-returns-4
 returns-4 c =
@@ -56,7 +56,10 @@ slice-aggregate-within-limit : tie.Need-slice-aggregate-within-limit
 slice-aggregate-within-limit c = search needs
 
 within-limit-requires : tie.Need-within-limit-requires
-within-limit-requires c κs = search needs
+within-limit-requires c κs =
+    let s = c .before .before .before .before .before .before .before .before .before .before .before .before .before .before in
+    let t = c .before .before .before .before .before .before .before .count-choices .ensures in
+    record { few = omega (arith, s .pre .survey .meters-high, c .before .before .before .before .before .before .before .before .before .if1 .left); size = t .0; each = t .1 }
 
 returns-5 : tie.Need-returns-5
 returns-5 c =

@@ -1,2 +1,0 @@
-pub mod Worked
-pub mod Filling

@@ -1,0 +1,11 @@
+pub mod Tried
+pub mod ByKind
+pub mod Accepted
+pub mod Demands
+pub mod Worked
+pub mod Dispatch
+pub mod Checked
+pub mod Posing
+pub mod Earlier
+pub mod Posed
+pub mod Answered

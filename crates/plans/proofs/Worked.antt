@@ -1,0 +1,203 @@
+-- 01's worked surveys marked P: a test of a line, computed over the whole table at once, and the law that what passes the test is what the line means. Assumes nothing.
+use Prim.Native.Nat.{ℕ, zero, suc, _+_, _%_, _≤_}
+use mathlib.Core.Path.{_≡_, refl, sym, ap, _∙_}
+use mathlib.Core.Bool.{Bool, true, false, _&&_, not, true≢false, false≢true}
+use mathlib.Core.List.{List, [], _∷_, List·Memᴰ}
+use lib.ListN.{length}
+use lib.IntN.{ℤ, pos, negsuc}
+use lib.Dec.{eqb, leb}
+use native.Mathlib.Omega.{arith}
+use borrow.Author.Tests.{eqb-true, eqb-false, leb-true, not-true, not-false}
+use Rattle.lists.specs.Tests.{every, any, all, from, alike}
+use Rattle.lists.specs.Sums.{sumTo, sumOf, greatest, leastAt, lowest, same, differ, nth}
+use Rattle.lists.proofs.Tests.{and-left, and-right, all-member, alike-same}
+use Rattle.links.specs.Links.{Link, linkOk, before, ascendingFrom, ascending, total, isAt, hasEnds, present}
+use Rattle.links.specs.Survey.{Survey}
+use Rattle.qubo.specs.Formula.{value}
+use Rattle.qubo.specs.Table.{constantOf, pairOf, rowOf}
+use Rattle.onehot.specs.Choices.{bitAt, setAt, oneHots, areChoices, code}
+use Rattle.channels.specs.Formula as c-formula
+use Rattle.channels.specs.Plans as c-plans
+use Rattle.channels.specs.Repair as c-repair
+use Rattle.groups.specs.Formula as g-formula
+use Rattle.spanning.specs.Parents.{deepest, depthOf, atMost, linked, parentLinked, rootsOf, isRooted, neighbours, isUsed, treeLinks}
+use Rattle.arcs.specs.Arcs.{arcs, arcsFrom}
+use Rattle.arcs.specs.Formula.{depthTerms, entryTerms, endTerms, weightTerms}
+use Rattle.neighbours.specs.Formula.{countTerms, degreeTerms}
+use Rattle.tree.specs.Formula as tree-formula
+use Rattle.site.proofs.Refused.{refusal-next, refusal-here}
+use Rattle.groups.proofs.Demands as groups
+use Rattle.tree.specs.Plans as tree-plans
+use Rattle.tree.specs.Best as tree-best
+use Rattle.tree.proofs.Trial.{options, tried, noLighter, noPlan, none-lighter, none-plan}
+use Rattle.tree.proofs.PlanFacts.{least-best}
+use Rattle.tree.proofs.Demands as tree
+use Rattle.plans.specs.declared.Kind.{Kind}
+use Rattle.plans.specs.declared.Kind.the-variants.{Channels, Groups, Tree}
+use Rattle.plans.specs.Kinds.{limitsHold, bitCount, penalty, formulaBy, formula, isPlan, weight, codeOf, decoded, repaired}
+use Rattle.plans.specs.Refusals.{codeTests}
+use Rattle.plans.specs.Calls.{codeNumber}
+use Rattle.plans.proofs.Accepted.{both-lengths}
+use Rattle.plans.specs.Surveys as lines
+use Rattle.plans.specs.Surveys.{Line, Means, Worked, table}
+
+-- ---- tests of whole numbers
+
+-- two are the same
+same-int : ℤ → ℤ → Bool
+same-int (pos a) (pos b) = eqb a b
+same-int (pos a) (negsuc b) = false
+same-int (negsuc a) (pos b) = false
+same-int (negsuc a) (negsuc b) = eqb a b
+
+int-same : (a b : ℤ) → same-int a b ≡ true → a ≡ b
+unfolding same-int
+int-same (pos a) (pos b) e = ap pos (eqb-true a b e)
+int-same (pos a) (negsuc b) e = absurd (false≢true e)
+int-same (negsuc a) (pos b) e = absurd (false≢true e)
+int-same (negsuc a) (negsuc b) e = ap negsuc (eqb-true a b e)
+
+-- two lists are
+same-ints : List ℤ → List ℤ → Bool
+same-ints [] [] = true
+same-ints [] (b ∷ bs) = false
+same-ints (a ∷ xs) [] = false
+same-ints (a ∷ xs) (b ∷ bs) = same-int a b && same-ints xs bs
+
+ints-same : (xs ys : List ℤ) → same-ints xs ys ≡ true → xs ≡ ys
+unfolding same-ints
+ints-same [] [] e = refl
+ints-same [] (b ∷ bs) e = absurd (false≢true e)
+ints-same (a ∷ xs) [] e = absurd (false≢true e)
+ints-same (a ∷ xs) (b ∷ bs) e = cons (int-same a b (and-left (same-int a b) _ e)) (ints-same xs bs (and-right (same-int a b) _ e))
+  where
+    cons : {a b : ℤ} {xs ys : List ℤ} → a ≡ b → xs ≡ ys → a ∷ xs ≡ b ∷ ys
+    cons p q = rw (p, q)
+
+-- ---- the test of a line
+
+-- no plan is lighter than w: over all lists of parents of a tree
+lightest : ℕ → List Link → Kind → ℕ → Bool
+lightest N ls (Channels n) w = false
+lightest N ls (Groups m) w = false
+lightest N ls (Tree d) w = tried (noLighter N d ls w) (options ls) 1 N []
+
+-- no list of parents is a plan
+unplanned : ℕ → List Link → Kind → Bool
+unplanned N ls (Channels n) = false
+unplanned N ls (Groups m) = false
+unplanned N ls (Tree d) = tried (noPlan N d ls) (options ls) 1 N []
+
+-- N does not divide into equal groups
+undivided : ℕ → Kind → Bool
+undivided N (Channels n) = false
+undivided N (Groups m) = not (eqb (N % m) 0)
+undivided N (Tree d) = false
+
+holds : ℕ → List Link → Kind → Line → Bool
+holds N ls k (lines.bits b) = eqb (bitCount N (length ls) k) b
+holds N ls k (lines.A a) = eqb (penalty N ls k) a
+holds N ls k (lines.constant c) = same-int (constantOf (formula N ls k)) c
+holds N ls k (lines.row i r) = same-ints (rowOf (formula N ls k) (bitCount N (length ls) k) i) r
+holds N ls k (lines.pair i j z) = same-int (pairOf (formula N ls k) i j) z
+holds N ls k (lines.energy x e) = same-int (value (formula N ls k) x) (pos e)
+holds N ls k (lines.plan q) = isPlan N ls k q
+holds N ls k (lines.plan-of q w) = isPlan N ls k q && (eqb (weight ls k q) w && same-int (value (formula N ls k) (codeOf N ls k q)) (pos w))
+holds N ls k (lines.no-plan-12 q) = eqb (length q) N && not (isPlan N ls k q)
+holds N ls k (lines.mended x q w m) = alike (decoded N ls k x) q && (eqb (weight ls k q) w && eqb (repaired N k x) m)
+holds N ls k (lines.least q w) = isPlan N ls k q && (eqb (weight ls k q) w && lightest N ls k w)
+holds N ls k lines.nothing-below = unplanned N ls k
+holds N ls k lines.no-plan = undivided N k
+
+-- ---- what passes is what the line means
+
+module _ (N : ℕ) (ls : List Link) (s : Survey N ls) where
+  -- a plan that no plan is lighter than, and the least energy
+  least-shown : (k : Kind) (q : List ℕ) (w : ℕ) → limitsHold N k ≡ true → isPlan N ls k q ≡ true → weight ls k q ≡ w → lightest N ls k w ≡ true → Means N ls k (lines.least q w)
+  unfolding limitsHold bitCount penalty formulaBy isPlan weight lightest tree-plans.treeWeight
+  least-shown (Channels n) q w l e h t = absurd (false≢true t)
+  least-shown (Groups m) q w l e h t = absurd (false≢true t)
+  least-shown (Tree d) q w l e h t =
+      let best : tree-best.LeastPlan N d ls q = record { ok = e; least = λ r f. omega (arith, h, none-lighter N d ls w (s .each) t r f) } in
+      let b = tree.best-least N d ls s l (treeLinks q ls) (least-best N d ls s q best) in
+      (e, h, (b .0, b .1, b .2, b .3 ∙ ap pos h))
+
+  below-shown : (k : Kind) → limitsHold N k ≡ true → unplanned N ls k ≡ true → Means N ls k lines.nothing-below
+  unfolding limitsHold bitCount penalty formulaBy isPlan unplanned
+  below-shown (Channels n) l t = absurd (false≢true t)
+  below-shown (Groups m) l t = absurd (false≢true t)
+  below-shown (Tree d) l t = tree.none-below N d ls s l (λ T a w. let p = tree.tree-plan N d ls s l T a w in none-plan N d ls (s .each) t (p .0) (p .1))
+
+  none-shown : (k : Kind) → limitsHold N k ≡ true → undivided N k ≡ true → Means N ls k lines.no-plan
+  unfolding limitsHold isPlan undivided
+  none-shown (Channels n) l t q e = absurd (false≢true t)
+  none-shown (Groups m) l t q e = eqb-false (N % m) 0 (not-true (eqb (N % m) 0) t) (groups.exists-exactly N m ls s l .1 (q, e))
+  none-shown (Tree d) l t q e = absurd (false≢true t)
+
+  -- coding what is no plan gives 12
+  refused-shown : (k : Kind) (q x : List ℕ) → length q ≡ N → isPlan N ls k q ≡ false → length x ≡ bitCount N (length ls) k → codeNumber [] N ls k q x ≡ 12
+  unfolding codeNumber codeTests
+  refused-shown k q x h e l = refusal-next 9 _ _ (both-lengths (length q) N (length x) (bitCount N (length ls) k) h l) ∙ refusal-here 12 _ _ (ap not e)
+
+  shown : (k : Kind) → limitsHold N k ≡ true → (l : Line) → holds N ls k l ≡ true → Means N ls k l
+  unfolding holds
+  shown k w (lines.bits b) t = eqb-true (bitCount N (length ls) k) b t
+  shown k w (lines.A a) t = eqb-true (penalty N ls k) a t
+  shown k w (lines.constant c) t = int-same (constantOf (formula N ls k)) c t
+  shown k w (lines.row i r) t = ints-same (rowOf (formula N ls k) (bitCount N (length ls) k) i) r t
+  shown k w (lines.pair i j z) t = int-same (pairOf (formula N ls k) i j) z t
+  shown k w (lines.energy x e) t = int-same (value (formula N ls k) x) (pos e) t
+  shown k w (lines.plan q) t = t
+  shown k w (lines.plan-of q v) t =
+      let r = and-right (isPlan N ls k q) _ t in
+      (and-left (isPlan N ls k q) _ t, eqb-true (weight ls k q) v (and-left (eqb (weight ls k q) v) _ r), int-same (value (formula N ls k) (codeOf N ls k q)) (pos v) (and-right (eqb (weight ls k q) v) _ r))
+  shown k w (lines.no-plan-12 q) t = λ x h. refused-shown k q x (eqb-true (length q) N (and-left (eqb (length q) N) _ t)) (not-true (isPlan N ls k q) (and-right (eqb (length q) N) _ t)) h
+  shown k w (lines.mended x q v m) t =
+      let r = and-right (alike (decoded N ls k x) q) _ t in
+      (alike-same (decoded N ls k x) q (and-left (alike (decoded N ls k x) q) _ t), eqb-true (weight ls k q) v (and-left (eqb (weight ls k q) v) _ r), eqb-true (repaired N k x) m (and-right (eqb (weight ls k q) v) _ r))
+  shown k w (lines.least q v) t =
+      let r = and-right (isPlan N ls k q) _ t in
+      least-shown k q v w (and-left (isPlan N ls k q) _ t) (eqb-true (weight ls k q) v (and-left (eqb (weight ls k q) v) _ r)) (and-right (eqb (weight ls k q) v) _ r)
+  shown k w lines.nothing-below t = below-shown k w t
+  shown k w lines.no-plan t = none-shown k w t
+
+-- ---- the whole table
+
+-- the site is one that an image can have, the kind's limits hold, and every line passes
+passes : Worked → Bool
+passes e =
+    leb 1 (e .meters)
+    && (leb (e .meters) 48
+    && (leb (length (e .site)) 256
+    && (all (linkOk (e .meters)) (e .site)
+    && (ascending (e .site)
+    && (limitsHold (e .meters) (e .kind)
+    && all (holds (e .meters) (e .site) (e .kind)) (e .lines))))))
+
+-- computed
+table-passes : all passes table ≡ true
+unfolding table passes holds same-int same-ints lightest unplanned undivided all alike from every any tried options noLighter noPlan limitsHold bitCount penalty formulaBy isPlan weight codeOf decoded repaired linkOk ascending ascendingFrom before total isAt hasEnds present sumTo sumOf greatest leastAt lowest same differ nth rowOf bitAt setAt oneHots areChoices code c-formula.withinLimits c-formula.load c-formula.penalty c-formula.clashTerms c-formula.formula c-plans.isPlan c-plans.codeOf c-plans.clashWeight c-repair.bears c-repair.heard c-repair.quietest c-repair.repairOne c-repair.repairBy c-repair.decoded c-repair.repaired g-formula.withinLimits g-formula.penalty g-formula.sizeTerms g-formula.cutTerms g-formula.formula tree-formula.withinLimits tree-formula.penalty tree-formula.formulaTo tree-plans.fewNeighbours tree-plans.isPlan tree-plans.treeWeight tree-plans.depthChoices tree-plans.arcChoice tree-plans.arcChoices tree-plans.countChoices tree-plans.codeOf deepest depthOf atMost linked parentLinked rootsOf isRooted neighbours isUsed treeLinks arcs arcsFrom depthTerms entryTerms endTerms weightTerms countTerms degreeTerms
+table-passes = refl
+
+-- one entry
+entry-shown : (e : Worked) → passes e ≡ true → (l : Line) → List·Memᴰ l (e .lines) → Means (e .meters) (e .site) (e .kind) l
+unfolding passes
+entry-shown e t l i =
+    let r1 = and-right (leb 1 (e .meters)) _ t in
+    let r2 = and-right (leb (e .meters) 48) _ r1 in
+    let r3 = and-right (leb (length (e .site)) 256) _ r2 in
+    let r4 = and-right (all (linkOk (e .meters)) (e .site)) _ r3 in
+    let r5 = and-right (ascending (e .site)) _ r4 in
+    let r6 = and-right (limitsHold (e .meters) (e .kind)) _ r5 in
+    let v : Survey (e .meters) (e .site) = record {
+      meters-low = leb-true 1 (e .meters) (and-left (leb 1 (e .meters)) _ t);
+      meters-high = leb-true (e .meters) 48 (and-left (leb (e .meters) 48) _ r1);
+      few = leb-true (length (e .site)) 256 (and-left (leb (length (e .site)) 256) _ r2);
+      each = and-left (all (linkOk (e .meters)) (e .site)) _ r3;
+      rises = and-left (ascending (e .site)) _ r4;
+    } in
+    shown (e .meters) (e .site) v (e .kind) (and-left (limitsHold (e .meters) (e .kind)) _ r5) l (all-member (holds (e .meters) (e .site) (e .kind)) (e .lines) r6 l i)
+
+-- every line of the table is as 01 says
+pub worked : (e : Worked) → List·Memᴰ e table → (l : Line) → List·Memᴰ l (e .lines) → Means (e .meters) (e .site) (e .kind) l
+worked e i = entry-shown e (all-member passes table table-passes e i)

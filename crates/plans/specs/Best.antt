@@ -1,0 +1,56 @@
+-- The words of the demands, of the bytes s of an image, the number k of a kind and its parameter p. Assumes nothing.
+use Prim.Native.Nat.{ℕ}
+use mathlib.Core.Path.{_≡_}
+use mathlib.Core.Bool.{Bool, true, false, _&&_, cond}
+use mathlib.Core.List.{List, [], _∷_}
+use lib.Dec.{eqb, ltb}
+use Rattle.qubo.specs.Best as best
+use Rattle.plans.specs.Calls.{bitsIn, formulaIn, isPlanIn, weightIn, codeIn, acceptNumberIn}
+
+-- ---- which refusal is given, of a list of numbers with their tests
+
+-- n is "the first refusal that applies": the number of the first test that applies, 0 where none does
+pub data First : List (ℕ × Bool) → ℕ → Type 0 where
+  none : First [] 0
+  here : {n : ℕ} {b : Bool} {xs : List (ℕ × Bool)} → b ≡ true → First ((n, b) ∷ xs) n
+  later : {m n : ℕ} {b : Bool} {xs : List (ℕ × Bool)} → b ≡ false → First xs n → First ((m, b) ∷ xs) n
+
+-- the number n is in the list, and its test applies
+pub data Applies (n : ℕ) : List (ℕ × Bool) → Type 0 where
+  this : {b : Bool} {xs : List (ℕ × Bool)} → b ≡ true → Applies n ((n, b) ∷ xs)
+  another : {x : ℕ × Bool} {xs : List (ℕ × Bool)} → Applies n xs → Applies n (x ∷ xs)
+
+-- where a number stands in the order of trial: "the lowest number .., except that 10 precedes 9"
+abbrev pub place : ℕ → ℕ
+place n = cond (eqb n 9) 10 (cond (eqb n 10) 9 n)
+
+-- the places rise, from above `low` on
+unfoldable pub risesFrom : ℕ → List (ℕ × Bool) → Bool
+risesFrom low [] = true
+risesFrom low (x ∷ xs) = ltb low (place (x .0)) && risesFrom (place (x .0)) xs
+
+-- a list in the order of trial
+abbrev pub InOrder : List (ℕ × Bool) → Type 0
+InOrder xs = risesFrom 0 xs ≡ true
+
+-- ---- least energy, and plans
+
+-- "An image and a kind with its parameter are accepted when no number that concerns them .. applies"
+abbrev pub Accepted : List ℕ → ℕ → ℕ → Type 0
+Accepted s k p = acceptNumberIn s k p ≡ 0
+
+-- no assignment has less energy than x
+abbrev pub LeastEnergyIn : List ℕ → ℕ → ℕ → List ℕ → Type 0
+LeastEnergyIn s k p x = best.LeastEnergy (formulaIn s k p) (bitsIn s k p) x
+
+-- "An assignment codes a plan when it is that plan's code"
+abbrev pub CodesPlanIn : List ℕ → ℕ → ℕ → List ℕ → Type 0
+CodesPlanIn s k p x = best.CodesPlan (isPlanIn s k p) (codeIn s k p) x
+
+-- q is a plan of least weight
+abbrev pub LeastPlanIn : List ℕ → ℕ → ℕ → List ℕ → Type 0
+LeastPlanIn s k p q = best.LeastPlan (isPlanIn s k p) (weightIn s k p) q
+
+-- x is the code of a plan of least weight
+abbrev pub CodesLeastIn : List ℕ → ℕ → ℕ → List ℕ → Type 0
+CodesLeastIn s k p x = best.CodesLeast (isPlanIn s k p) (weightIn s k p) (codeIn s k p) x

@@ -1,0 +1,151 @@
+// Prints the table of an image and a kind with its parameter: 2,066 bytes on standard input, the image and then the two numbers of a byte each. A line `Q bits constant`, then a line `i j value` for each
+// number that is not 0, i rising, then j rising, with `i i` for a single bit; or one line, `refused` and the number.
+mod lines;
+
+ghost use Prim.Native.Nat.{_+_, _≤_, _<_};
+ghost use lib.ListN.{length};
+use libc::STDIN_FILENO;
+use plans::Number;
+
+// Image, kind and parameter.
+const INPUT: usize = 2066;
+
+const KIND_AT: usize = 2064;
+
+const PARAMETER_AT: usize = 2065;
+
+// The line of a refusal.
+fn print_refusal(number: u64) {
+    let mut out = io::large_buffer();
+    let named = lines::put(&mut out, 0, b"refused ");
+    let at = lines::put_number(&mut out, named, number);
+    let end = lines::put(&mut out, at, b"\n");
+    lines::flush(&out, end);
+}
+
+// The line `Q bits constant`.
+fn put_head(out: &mut [u8; 65536], bits: i64, constant: i64) -> usize
+    ensures { λ r. ⌜ r ≤ 65536 ⌝ }
+{
+    let named = lines::put(out, 0, b"Q ");
+    let first = lines::put_signed(out, named, bits);
+    let second = lines::put(out, first, b" ");
+    let last = lines::put_signed(out, second, constant);
+    lines::put(out, last, b"\n")
+}
+
+// The lines of row i. Number k of it stands at the pair (i, i + k), the first at bit i alone.
+fn put_row(out: &mut [u8; 65536], start: usize, i: u64, row: &[i64]) -> usize
+    requires { ⌜ (start ≤ 65536) × (i + length (now row) ≤ 16384) ⌝ }
+    ensures { λ r. ⌜ r ≤ 65536 ⌝ }
+{
+    let mut at = start;
+    let mut k = 0;
+    while k < row.len() {
+        let z = row[k];
+        if z != 0 {
+            at = lines::room(out, at);
+            at = lines::put_entry(out, at, i, i + (k as u64), z);
+        }
+        k += 1;
+    }
+    at
+}
+
+// Row i, filled in the lent places and printed at once: the whole table is never held.
+fn show_row(
+    out: &mut [u8; 65536],
+    start: usize,
+    image: &[u8],
+    kind: u64,
+    parameter: u64,
+    i: u64,
+    places: &mut [i64],
+) -> usize
+    requires { ⌜ (start ≤ 65536) × (i < 8192) ⌝ }
+    ensures { λ r. ⌜ r ≤ 65536 ⌝ }
+{
+    let row = plans::row(image, kind, parameter, i, places);
+    put_row(out, start, i, &row[..])
+}
+
+// An array of known length is lent as such, so that the loop above needs no fact about it.
+fn show_row_in(
+    out: &mut [u8; 65536],
+    start: usize,
+    image: &[u8],
+    kind: u64,
+    parameter: u64,
+    i: u64,
+    places: &mut [i64; 8192],
+) -> usize
+    requires { ⌜ (start ≤ 65536) × (i < 8192) ⌝ }
+    ensures { λ r. ⌜ r ≤ 65536 ⌝ }
+{
+    show_row(out, start, image, kind, parameter, i, places)
+}
+
+// There is a row for each bit; no table has more than 8,192.
+fn row_count(bits: i64) -> u64
+    ensures { λ r. ⌜ r ≤ 8192 ⌝ }
+{
+    let count = lines::magnitude(bits);
+    if count < 8192 { count } else { 8192 }
+}
+
+// The table, row by row.
+fn show_table(image: &[u8], kind: u64, parameter: u64, bits: i64, constant: i64) {
+    let mut out = io::large_buffer();
+    let mut places = [0i64; 8192];
+    let mut at = put_head(&mut out, bits, constant);
+    let rows = row_count(bits);
+    let mut i: u64 = 0;
+    while i < rows {
+        at = show_row_in(&mut out, at, image, kind, parameter, i, &mut places);
+        i += 1;
+    }
+    lines::flush(&out, at);
+}
+
+// The constant is refused where the bit count is, and nowhere else.
+fn show_bits(image: &[u8], kind: u64, parameter: u64, bits: i64) {
+    let constant = plans::constant(image, kind, parameter);
+    match constant {
+        Number::Refused(number) => print_refusal(number),
+        Number::Value(z) => show_table(image, kind, parameter, bits, z),
+    }
+}
+
+// The table or the refusal.
+fn show(image: &[u8], kind: u64, parameter: u64) {
+    let bits = plans::bit_count(image, kind, parameter);
+    match bits {
+        Number::Refused(number) => print_refusal(number),
+        Number::Value(count) => show_bits(image, kind, parameter, count),
+    }
+}
+
+// The image stands in front.
+fn show_front(input: &[u8], kind: u64, parameter: u64)
+    requires { ⌜ 2064 ≤ length (now input) ⌝ }
+{
+    show(&input[..KIND_AT], kind, parameter);
+}
+
+// A byte, as the calls take numbers.
+fn wide(x: u8) -> u64 {
+    x as u64
+}
+
+// One place more than the input has, so that a longer one is seen.
+fn main() {
+    let mut input = [0u8; 2067];
+    let n = io::read_full(STDIN_FILENO, &mut input);
+    if n != INPUT {
+        print_refusal(1);
+        return;
+    }
+    let kind = wide(input[KIND_AT]);
+    let parameter = wide(input[PARAMETER_AT]);
+    show_front(&input, kind, parameter);
+}

@@ -1,0 +1,53 @@
+use Prim.Native.Nat.{_-_}
+use borrow.Author.Needs.{needs}
+use Rattle.reference.proofs.choices.link_sum.Statement.{statement}
+use Rattle.reference.proofs.choices.link_sum.Tie as tie
+
+abbrev Inv-loop : tie.InvT-loop
+Inv-loop weights n bits ends sum₀ place₀ sum place = Unit {0}
+
+abbrev μ-loop : tie.MeasureT-loop
+μ-loop weights n bits ends sum₀ place₀ sum place = 64 - place
+
+loop-holds : tie.Need-loop-holds Inv-loop μ-loop
+loop-holds c = tt
+
+link-at-requires : tie.Need-link-at-requires Inv-loop μ-loop
+link-at-requires c κs = search needs
+
+having-requires : tie.Need-having-requires Inv-loop μ-loop
+having-requires c κs = search needs
+
+times-requires : tie.Need-times-requires Inv-loop μ-loop
+times-requires c κs = search needs
+
+plus-requires : tie.Need-plus-requires Inv-loop μ-loop
+plus-requires c κs = search needs
+
+add-place : tie.Need-add-place Inv-loop μ-loop
+add-place c = search needs
+
+loop-less : tie.Need-loop-less Inv-loop μ-loop
+loop-less c = search needs
+
+loop-again : tie.Need-loop-again Inv-loop μ-loop
+loop-again c = tt
+
+returns : tie.Need-returns Inv-loop μ-loop
+returns c = search needs
+
+pub link-sum-spec : {M : Type 1} → statement M
+link-sum-spec =
+    tie.close
+    (tie.spec
+    Inv-loop
+    μ-loop
+    loop-holds
+    link-at-requires
+    having-requires
+    times-requires
+    plus-requires
+    add-place
+    loop-less
+    loop-again
+    returns)

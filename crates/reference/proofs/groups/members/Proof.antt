@@ -1,0 +1,45 @@
+use Prim.Native.Nat.{_-_}
+use borrow.Author.Needs.{needs}
+use Rattle.reference.proofs.groups.members.Statement.{statement}
+use Rattle.reference.proofs.groups.members.Tie as tie
+
+abbrev Inv-loop : tie.InvT-loop
+Inv-loop plan meters i count₀ v₀ count v = Unit {0}
+
+abbrev μ-loop : tie.MeasureT-loop
+μ-loop plan meters i count₀ v₀ count v = meters - v
+
+loop-holds : tie.Need-loop-holds Inv-loop μ-loop
+loop-holds c = tt
+
+add-v : tie.Need-add-v Inv-loop μ-loop
+add-v c = search needs
+
+byte-at-requires : tie.Need-byte-at-requires Inv-loop μ-loop
+byte-at-requires c κs = search needs
+
+counted-requires : tie.Need-counted-requires Inv-loop μ-loop
+counted-requires c κs = search needs
+
+loop-less : tie.Need-loop-less Inv-loop μ-loop
+loop-less c = search needs
+
+loop-again : tie.Need-loop-again Inv-loop μ-loop
+loop-again c = tt
+
+returns : tie.Need-returns Inv-loop μ-loop
+returns c = search needs
+
+pub members-spec : {M : Type 1} → statement M
+members-spec =
+    tie.close
+    (tie.spec
+    Inv-loop
+    μ-loop
+    loop-holds
+    add-v
+    byte-at-requires
+    counted-requires
+    loop-less
+    loop-again
+    returns)

@@ -1,0 +1,53 @@
+use Prim.Native.Nat.{_-_}
+use borrow.Author.Needs.{needs}
+use Rattle.reference.proofs.trees.arc_weights.Statement.{statement}
+use Rattle.reference.proofs.trees.arc_weights.Tie as tie
+
+abbrev Inv-loop : tie.InvT-loop
+Inv-loop weights meters bits sum₀ place₀ sum place = Unit {0}
+
+abbrev μ-loop : tie.MeasureT-loop
+μ-loop weights meters bits sum₀ place₀ sum place = 64 - place
+
+loop-holds : tie.Need-loop-holds Inv-loop μ-loop
+loop-holds c = tt
+
+arcs-set-requires : tie.Need-arcs-set-requires Inv-loop μ-loop
+arcs-set-requires c κs = search needs
+
+link-at-requires : tie.Need-link-at-requires Inv-loop μ-loop
+link-at-requires c κs = search needs
+
+times-requires : tie.Need-times-requires Inv-loop μ-loop
+times-requires c κs = search needs
+
+plus-requires : tie.Need-plus-requires Inv-loop μ-loop
+plus-requires c κs = search needs
+
+add-place : tie.Need-add-place Inv-loop μ-loop
+add-place c = search needs
+
+loop-less : tie.Need-loop-less Inv-loop μ-loop
+loop-less c = search needs
+
+loop-again : tie.Need-loop-again Inv-loop μ-loop
+loop-again c = tt
+
+returns : tie.Need-returns Inv-loop μ-loop
+returns c = search needs
+
+pub arc-weights-spec : {M : Type 1} → statement M
+arc-weights-spec =
+    tie.close
+    (tie.spec
+    Inv-loop
+    μ-loop
+    loop-holds
+    arcs-set-requires
+    link-at-requires
+    times-requires
+    plus-requires
+    add-place
+    loop-less
+    loop-again
+    returns)

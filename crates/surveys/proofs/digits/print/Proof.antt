@@ -1,0 +1,50 @@
+use native.Mathlib.Omega.{arith}
+use Prim.Native.Nat.{_-_, _≤_}
+use lib.ListN.{length}
+use Rattle.surveys.proofs.digits.print.Statement.{statement}
+use Rattle.surveys.proofs.digits.print.Tie as tie
+
+abbrev Inv-loop : tie.InvT-loop
+Inv-loop text bytes i₀ i = i ≤ length bytes
+
+abbrev μ-loop : tie.MeasureT-loop
+μ-loop text bytes i₀ i = length bytes - i
+
+words-requires : tie.Need-words-requires Inv-loop μ-loop
+words-requires c κs = tt
+
+loop-holds : tie.Need-loop-holds Inv-loop μ-loop
+loop-holds c = omega arith
+
+shared-slice-read-print-byte : tie.Need-shared-slice-read-print-byte Inv-loop μ-loop
+shared-slice-read-print-byte c = omega arith
+
+print-byte-requires : tie.Need-print-byte-requires Inv-loop μ-loop
+print-byte-requires c κs = tt
+
+add-i : tie.Need-add-i Inv-loop μ-loop
+add-i c = omega arith
+
+loop-less : tie.Need-loop-less Inv-loop μ-loop
+loop-less c = omega arith
+
+loop-again : tie.Need-loop-again Inv-loop μ-loop
+loop-again c = omega arith
+
+returns : tie.Need-returns Inv-loop μ-loop
+returns c = tt
+
+pub print-spec : {M : Type 1} → statement M
+print-spec =
+    tie.close
+    (tie.spec
+    Inv-loop
+    μ-loop
+    words-requires
+    loop-holds
+    shared-slice-read-print-byte
+    print-byte-requires
+    add-i
+    loop-less
+    loop-again
+    returns)

@@ -1,0 +1,19 @@
+// Draws small sites at random, the same on every run, makes each with the public calls, and compares every answer of the library with `reference`, a second implementation that shares no code with it.
+// What the stored output holds against the papers is that nothing differs; its counts, taken from a run, keep the comparison from becoming an empty one.
+mod asks;
+mod assignments;
+mod bytes;
+mod calls;
+mod cases;
+mod counts;
+mod edits;
+mod lists;
+mod rows;
+mod sites;
+
+// All sites, then what was compared.
+fn main() {
+    let mut counts = [0u64; 66];
+    sites::compare_all(&mut counts);
+    counts::show(&counts);
+}
