@@ -1,6 +1,4 @@
 // The calls for bits and for plans, each made in one place.
-ghost use Prim.Native.Nat.{_≤_};
-use crate::digits;
 use plans::Decoded;
 use plans::Number;
 
@@ -9,35 +7,13 @@ pub fn energy(image: &[u8], kind: u64, parameter: u64, bits: &[u8]) -> Number {
     plans::energy(image, kind, parameter, bits)
 }
 
-// The code, in the bits lent, of the plan that has the digits of a number.
-pub fn encode(
-    image: &[u8],
-    kind: u64,
-    parameter: u64,
-    plan: &mut [u8],
-    bits: &mut [u8],
-    base: u64,
-    number: u64,
-) -> u64
-    requires { ⌜ (1 ≤ base) × (base ≤ 10) ⌝ }
-{
-    digits::fill(plan, number, base);
+// The code of a plan, in the bits lent.
+pub fn encode(image: &[u8], kind: u64, parameter: u64, plan: &[u8], bits: &mut [u8]) -> u64 {
     plans::encode(image, kind, parameter, plan, bits)
 }
 
-// The plan, in the plan lent, of the bits that have the digits of a number.
-pub fn decode(
-    image: &[u8],
-    kind: u64,
-    parameter: u64,
-    plan: &mut [u8],
-    bits: &mut [u8],
-    base: u64,
-    number: u64,
-) -> Decoded
-    requires { ⌜ (1 ≤ base) × (base ≤ 10) ⌝ }
-{
-    digits::fill(bits, number, base);
+// The plan of bits, in the plan lent.
+pub fn decode(image: &[u8], kind: u64, parameter: u64, bits: &[u8], plan: &mut [u8]) -> Decoded {
     plans::decode(image, kind, parameter, bits, plan)
 }
 

@@ -1,6 +1,7 @@
 // Tries all plans or all assignments, and finds the least energy.
 ghost use Prim.Native.Nat.{_≤_};
 use crate::answers;
+use crate::digits;
 use crate::lines;
 use crate::numbers;
 use plans::Number;
@@ -38,9 +39,11 @@ fn try_one(
     requires { ⌜ (1 ≤ base) × (base ≤ 10) ⌝ }
 {
     if as_plan {
-        return answers::encode(image, kind, parameter, plan, bits, base, number);
+        digits::fill(plan, number, base);
+        return answers::encode(image, kind, parameter, plan, bits);
     }
-    answers::decode_number(answers::decode(image, kind, parameter, plan, bits, base, number))
+    digits::fill(bits, number, base);
+    answers::decode_number(answers::decode(image, kind, parameter, bits, plan))
 }
 
 // The line of all lists.

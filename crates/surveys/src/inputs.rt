@@ -42,7 +42,7 @@ pub fn row_length(image: &[u8], kind: u64, parameter: u64, i: u64, places: &mut 
 
 // The calls for a row.
 fn show_row_in(image: &[u8], kind: u64, parameter: u64, i: u64, places: &mut [i64]) {
-    numbers::spaced(plans::row_refusal(image, kind, parameter, i, places));
+    lines::named(b": ", plans::row_refusal(image, kind, parameter, i, places));
     numbers::spaced(row_length(image, kind, parameter, i, places));
     numbers::spaced(plans::fill_row(image, kind, parameter, i, places));
     print_all(places);
@@ -53,11 +53,10 @@ fn show_row(image: &[u8], kind: u64, parameter: u64, i: u64, count: usize) {
     let mut places = [77i64; 100];
     let n = digits::within(count);
     lines::named(b"; row ", i);
-    lines::words(b":");
     show_row_in(image, kind, parameter, i, &mut places[..n]);
 }
 
-// The calls for the bits that have the digits of a number.
+// The calls for bits, which are the digits of a number.
 fn show_decode(
     image: &[u8],
     kind: u64,
@@ -69,15 +68,15 @@ fn show_decode(
 )
     requires { ⌜ (1 ≤ base) × (base ≤ 10) ⌝ }
 {
-    let answer = answers::decode(image, kind, parameter, plan, bits, base, number);
+    digits::fill(bits, number, base);
     digits::print(b"; bits ", bits);
     lines::words(b":");
     numbers::answer(answers::energy(image, kind, parameter, bits));
-    numbers::decoded(answer);
+    numbers::decoded(answers::decode(image, kind, parameter, bits, plan));
     digits::print(b" ", plan);
 }
 
-// The call for the plan that has the digits of a number.
+// The call for a plan, which is the digits of a number.
 fn show_encode(
     image: &[u8],
     kind: u64,
@@ -89,9 +88,9 @@ fn show_encode(
 )
     requires { ⌜ (1 ≤ base) × (base ≤ 10) ⌝ }
 {
-    let answer = answers::encode(image, kind, parameter, plan, bits, base, number);
+    digits::fill(plan, number, base);
     digits::print(b"; plan ", plan);
-    lines::named(b": ", answer);
+    lines::named(b": ", answers::encode(image, kind, parameter, plan, bits));
     digits::print(b" ", bits);
 }
 

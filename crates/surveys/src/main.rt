@@ -1,5 +1,5 @@
-// Makes the calls that the papers work through and many others, and prints the numbers that they return, so that the compiled library is compared with a stored file. The file was not copied
-// from a run: its lines were worked out from the papers, and the counts of the random edits by a separate model of the papers.
+// Makes the calls of `site` and of `plans` that the papers work through and many others, and prints what they give, so that the compiled library is compared with a stored file. The file was not copied
+// from a run: its lines were worked out from the papers, and the random edits, the tables and what all lists come to by separate models of the papers.
 mod answers;
 mod bests;
 mod broken;

@@ -27,6 +27,14 @@ fn parameters(image: &[u8]) {
     show_calls(image, 3, 48, 0, 4, 4, 1001, 2, 12);
 }
 
+// The least and the greatest parameters, which are accepted.
+fn limits(image: &[u8]) {
+    show_calls(image, 1, 1, 0, 2, 2, 11, 2, 11);
+    show_calls(image, 1, 16, 31, 1, 32, 0, 2, 12);
+    show_calls(image, 2, 16, 31, 1, 32, 0, 2, 12);
+    show_calls(image, 3, 47, 99, 1, 100, 0, 2, 1);
+}
+
 // Too few places for a row, a row at or above the bit count, and both; then a row that is accepted, in more places than it needs.
 fn rows(image: &[u8]) {
     show_calls(image, 1, 2, 0, 3, 4, 1001, 2, 12);
@@ -64,30 +72,29 @@ fn unrepaired(image: &[u8]) {
 fn show_front(long: &[u8], n: usize)
     requires { ⌜ n ≤ length (now long) ⌝ }
 {
-    lines::named(b"of ", n as u64);
-    lines::words(b" bytes: ");
     show_calls(&long[..n], 1, 2, 0, 4, 4, 1001, 2, 12);
 }
 
 // An image without its last byte, whole, and with one byte more.
 fn lengths(image: &[u8]) {
     let long = copies::copy_of(image);
+    lines::words(b"2063, 2064 and 2065 bytes\n");
     show_front(&long, 2063);
     show_front(&long, 2064);
     show_front(&long, 2065);
 }
 
-// A zero byte that is set, alone and with all that can be refused beside it.
-fn spoiled(image: &mut [u8; 2064]) {
-    image[1] = 1;
-    show_set(image);
+// An image with a zero byte set, alone and with all that can be refused beside it.
+fn broken(image: &[u8]) {
+    lines::words(b"byte 1 set\n");
+    show_calls(image, 1, 2, 0, 4, 4, 1001, 2, 12);
+    show_calls(image, 4, 2, 4, 0, 3, 200, 1, 3);
 }
 
-fn show_set(image: &[u8; 2064]) {
-    lines::words(b"byte 1 set: ");
-    show_calls(image, 1, 2, 0, 4, 4, 1001, 2, 12);
-    lines::words(b"byte 1 set: ");
-    show_calls(image, 4, 2, 4, 0, 3, 200, 1, 3);
+// Sets byte 1, and lends the image as one of known length.
+fn spoil(image: &mut [u8; 2064]) {
+    image[1] = 1;
+    broken(image);
 }
 
 // One meter, which has no tree.
@@ -98,19 +105,20 @@ fn single(image: &[u8]) {
 
 // Two meters and a link of weight 3.
 fn pair(image: &[u8]) {
-    lengths(image);
     kinds(image);
     parameters(image);
+    limits(image);
     show_calls(image, 4, 2, 4, 0, 3, 200, 1, 3);
     rows(image);
     lists(image);
     unrepaired(image);
+    lengths(image);
 }
 
 // Every refusal of these calls but 8.
 pub fn show() {
     let mut image = sites::site(2, 12, 3);
     pair(&image);
-    spoiled(&mut image);
+    spoil(&mut image);
     single(&sites::site(1, 0, 1));
 }

@@ -3,7 +3,7 @@ ghost use Prim.Native.Nat.{_<_};
 use crate::lines;
 
 // A site with no links.
-pub fn begun(meters: u64) -> [u8; 2064] {
+fn begun(meters: u64) -> [u8; 2064] {
     let mut image = [0u8; 2064];
     plans::begin(&mut image, meters);
     image

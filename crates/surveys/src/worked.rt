@@ -6,6 +6,7 @@ use crate::inputs::ENCODE;
 use crate::inputs::PLANS;
 use crate::inputs::show_calls;
 use crate::lines;
+use crate::numbers;
 use crate::sites;
 
 // The listing, of two meters on two channels.
@@ -101,22 +102,18 @@ fn path(image: &[u8]) {
     show_tree(image, 2, 4, 123, 32, 0);
 }
 
-// The line of the length of a row of the largest table.
+// The length of a row of the largest table.
 fn show_length(image: &[u8], i: u64) {
     let mut places = [0i64; 8192];
-    lines::named(b"row ", i);
-    lines::named(
-        b": length ",
-        inputs::row_length(image, 3, 1, i, &mut places),
-    );
-    lines::words(b"\n");
+    numbers::spaced(inputs::row_length(image, 3, 1, i, &mut places));
 }
 
 // 48 meters and 144 links: nearly as many bits as there may be with d = 1, and more with d = 2.
 fn large(image: &[u8]) {
-    lines::words(b"48 meters, 144 links of weight 1\n");
+    lines::words(b"48 meters, 144 links of weight 1, d = 1, lengths of rows 0 and 8159:");
     show_length(image, 0);
     show_length(image, 8159);
+    lines::words(b"\n");
     show_calls(image, 3, 1, 8159, 1, 4, 1001, 2, 12);
     show_calls(image, 3, 2, 0, 4, 4, 1001, 2, 12);
 }

@@ -18,7 +18,7 @@ pub struct Least {
 pub const NONE: u64 = 18446744073709551615;
 
 // How many assignments of a larger case are drawn.
-const DRAWN: usize = 20;
+const DRAWN: usize = 40;
 
 // Of no energies.
 pub fn none() -> Least {

@@ -46,7 +46,7 @@ pub fn case_of(
     }
 }
 
-// Whether more than bit count, penalty and constant is compared: of small cases and, of three meters or more, of those with a parameter up to 2 and at most 48 bits.
+// Whether more than bit count, penalty and constant is compared: of small cases and, of three meters or more, of those with a parameter up to 4, of groups up to 5.
 fn is_chosen(c: Case) -> bool {
     if c.refusal != 0 {
         return false;
@@ -57,10 +57,10 @@ fn is_chosen(c: Case) -> bool {
     if c.meters < 3 {
         return false;
     }
-    if 48 < c.bits {
-        return false;
+    if c.kind == 2 {
+        return c.size <= 5;
     }
-    c.size <= 2
+    c.size <= 4
 }
 
 // Whether the least energies are those of the best plans. `all` is of every assignment, `plans` of the codes of all plans.

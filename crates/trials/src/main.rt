@@ -1,5 +1,5 @@
 // Draws small sites at random, the same on every run, makes each with the public calls, and compares every answer of the library with `reference`, a second implementation that shares no code with it.
-// What the stored output holds against the papers is that nothing differs; its counts, taken from a run, keep the comparison from becoming an empty one.
+// What the stored output holds against the papers is that nothing differs; its counts keep the comparison from becoming an empty one, and a separate model of the papers and of the draws gives the same.
 mod asks;
 mod assignments;
 mod bytes;

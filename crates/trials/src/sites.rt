@@ -13,7 +13,7 @@ fn no_links() -> [u16; 64] {
 
 // The most bits for every assignment: the first site of each number of meters has more than the others.
 fn most_bits(s: usize) -> usize {
-    if s < 5 { 16 } else { 10 }
+    if s < 5 { 16 } else { 12 }
 }
 
 // The answers for a site.

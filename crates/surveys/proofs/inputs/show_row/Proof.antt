@@ -14,12 +14,6 @@ slice-aggregate-named c = search needs
 named-requires : tie.Need-named-requires
 named-requires c κs = search needs
 
-slice-aggregate-words : tie.Need-slice-aggregate-words
-slice-aggregate-words c = search needs
-
-words-requires : tie.Need-words-requires
-words-requires c κs = search needs
-
 array-borrow-prefix-places : tie.Need-array-borrow-prefix-places
 array-borrow-prefix-places c = search needs
 
@@ -39,8 +33,6 @@ show-row-spec =
     within-requires
     slice-aggregate-named
     named-requires
-    slice-aggregate-words
-    words-requires
     array-borrow-prefix-places
     slice-aggregate-show-row-in
     show-row-in-requires
