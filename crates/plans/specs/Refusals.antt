@@ -19,7 +19,7 @@ MOST-BITS = 8192
 unfoldable pub badKind : ℕ → ℕ → ℕ → Bool
 badKind N k p = not (leb 1 k && leb k 3) || not (limitsHold N (kindOf k p))
 
--- "a lent bit is neither 0 nor 1", of all that are lent
+-- every byte is a bit; 11 is "a lent bit is neither 0 nor 1"
 unfoldable pub areBits : List ℕ → Bool
 areBits x = all (λ b. leb b 1) x
 
