@@ -5,7 +5,7 @@ use mathlib.Core.Bool.{Bool, true, false, cond, _&&_}
 use mathlib.Core.List.{List, [], _∷_, _++_, append-assoc}
 use native.Mathlib.Omega.{arith}
 use borrow.Author.Tests.{eq-eqb, ne-eqb, le-leb, lt-leb}
-use lib.Dec.{leb}
+use lib.Dec.{eqb, leb}
 use lib.ListN.{length, getD}
 use lib.IntN.{ℤ}
 use Rattle.links.specs.Links.{linkIn, linksFrom, linksOf}
@@ -14,8 +14,9 @@ use Rattle.qubo.specs.Formula.{Formula}
 use Rattle.qubo.specs.Terms.{over, pair}
 use Rattle.qubo.specs.Rows.{addTerms, Room}
 use Rattle.qubo.proofs.RowAction.{add-none, add-append, room-front, room-back}
-use Rattle.qubo.proofs.RowWalk.{Walked, walked-start, walked-room, walked-turn, walked-end}
-use Rattle.arcs.specs.Arcs.{Arc, arcsFrom, arcs, arcBit}
+use Rattle.qubo.proofs.RowTerms.{pair-below}
+use Rattle.qubo.proofs.RowWalk.{Walked, walked-first, walked-room, walked-turn, walked-end}
+use Rattle.arcs.specs.Arcs.{Arc, arcsFrom, arcs, arcBit, arcsEnd}
 use Rattle.arcs.specs.Lent.{Lent, Row}
 use Rattle.arcs.specs.Walks.{pairAt, pairsInto, pairsWithin, arcsBetween, Walk}
 use Rattle.arcs.proofs.ArcLists.{arcUp, arcBack, arcsLeft, arcs-start, arcs-turn, arcs-end}
@@ -58,6 +59,14 @@ module _ (q : ℤ) (i p m v : ℕ) where
   pub at-no : (m ≡ v → ⊥) → (r : List ℤ) → r ≡ addTerms (pairAt q i p m v) i r
   at-no e r = rw (ne-eqb m v e) (sym (add-none i r))
 
+  -- a bit below bit i: their pair stands in its own row
+  at-under : p < i → (r : List ℤ) → addTerms (pairAt q i p m v) i r ≡ r
+  at-under h r = go (eqb m v)
+    where
+      go : (b : Bool) → addTerms (cond b (pair q i p ∷ []) []) i r ≡ r
+      go true = pair-below q i p r h
+      go false = add-none i r
+
 -- ---- the arcs into a meter, link by link
 
 -- the terms of one arc
@@ -69,9 +78,25 @@ abbrev pub Into : ℤ → ℕ → ℕ → ℕ → ℕ → ℕ → List ℕ → L
 Into q i N D v t tails heads row₀ row k = Walked (2 ^ 61) (termsLeft (intoOf q i N D v t) tails heads []) (length tails) i row₀ row k
 
 module _ (q : ℤ) (i N D v t : ℕ) (tails heads : List ℕ) (row₀ : List ℤ) where
-  pub into-start : Room (2 ^ 61) (pairsInto q i N D v t (arcsBetween tails heads)) row₀ → Into q i N D v t tails heads row₀ row₀ 0
-  unfolding pairsInto intoOf
-  into-start room = walked-start _ (termsAt (intoOf q i N D v t) tails heads []) _ _ _ (terms-next (intoOf q i N D v t) tails heads []) (terms-none (intoOf q i N D v t) tails heads []) row₀ (rw (terms-all (intoOf q i N D v t) tails heads []) room)
+  module _ (low : 1 ≤ t) (high : t ≤ D) where
+    -- a link whose arcs' bits are below bit i adds nothing
+    link-under : (k : ℕ) → arcsEnd N D (k + 1) ≤ i → (r : List ℤ) → addTerms (termsAt (intoOf q i N D v t) tails heads [] k) i r ≡ r
+    unfolding termsAt intoOf
+    link-under k under r =
+        let there = arc-below N D (k + 1) (arcUp tails heads [] k) t (omega arith) low high in
+        let back = arc-below N D (k + 1) (arcBack tails heads [] k) t (omega arith) low high in
+        let first = pairAt q i (arcBit N D (arcUp tails heads [] k) t) (getD heads k 0) v in
+        let second = pairAt q i (arcBit N D (arcBack tails heads [] k) t) (getD tails k 0) v in
+        add-append first second i r
+        ∙ ap (addTerms second i) (at-under q i (arcBit N D (arcUp tails heads [] k) t) (getD heads k 0) v (omega arith) r)
+        ∙ at-under q i (arcBit N D (arcBack tails heads [] k) t) (getD tails k 0) v (omega arith) r
+
+    -- the walk begins at `from`
+    pub into-start : (from : ℕ) → from ≤ length tails → ((k : ℕ) → k < from → arcsEnd N D (k + 1) ≤ i) → Room (2 ^ 61) (pairsInto q i N D v t (arcsBetween tails heads)) row₀ → Into q i N D v t tails heads row₀ row₀ from
+    unfolding pairsInto intoOf
+    into-start from h under room =
+        walked-first _ (termsAt (intoOf q i N D v t) tails heads []) _ _ _ (terms-next (intoOf q i N D v t) tails heads []) (terms-none (intoOf q i N D v t) tails heads []) row₀ from h (λ k l. link-under k (under k l))
+        (rw (terms-all (intoOf q i N D v t) tails heads []) room)
 
   module _ (row : List ℤ) (k : ℕ) (w : Into q i N D v t tails heads row₀ row k) where
     pub into-all : length tails ≤ k → row ≡ addTerms (pairsInto q i N D v t (arcsBetween tails heads)) i row₀

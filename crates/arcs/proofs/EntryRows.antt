@@ -1,15 +1,17 @@
 -- What the terms "its depth-i bit - depth-i arcs into it" add to row i: a depth bit and an arc bit each stand in the term of one meter and one depth, with the coefficient 1 or -1. Assumes nothing.
-use Prim.Native.Nat.{ℕ, suc, pred, _+_, _*_, _≤_, _<_}
+use Prim.Native.Nat.{ℕ, suc, pred, _+_, _*_, _/_, _≤_, _<_}
 use mathlib.Core.Path.{_≡_, refl, sym, ap, ap₂, _∙_}
 use mathlib.Core.Bool.{Bool, true, false, cond}
 use mathlib.Core.List.{List, [], _∷_, List·Memᴰ}
 use native.Mathlib.Omega.{arith}
 use native.Mathlib.Decide.{ℕ-discrete}
+use native.Mathlib.Nat.{div-add-mod', mul-le-mul-right}
 use borrow.Author.Tests.{eq-eqb, ne-eqb}
 use lib.Dec.{eqb}
 use lib.ListN.{length}
 use lib.IntN.{ℤ, pos, negsuc, _+ℤ_, _-ℤ_, _*ℤ_, +ℤ-idr}
 use Rattle.links.specs.Links.{Link, linksOf}
+use Rattle.links.proofs.Arrays.{length-linksOf}
 use Rattle.qubo.specs.Formula.{square}
 use Rattle.qubo.specs.Table.{only, coef}
 use Rattle.qubo.specs.Terms.{eachOf, each, over, sum, bit, single, pair, times}
@@ -164,6 +166,18 @@ entry-done A N D ks v t i q h r r₁ r₂ r₃ e₁ e₂ e₃ =
     e₃ ∙ ap (addTerms (pairsInto (pos 0 -ℤ q) i N D v t ks) i) (e₂ ∙ ap (addTerms (pair q i (depthBit D v t) ∷ []) i) e₁) ∙ sym (entry-parts A N D ks v t i q h r)
 
 -- ---- add_entries: the term of the place of bit i
+
+-- the link of an arc is one of the links, and the arc bits of those before it are below the arc's
+module _ (N D : ℕ) (us vs ws : List ℕ) (i : ℕ) (a : Arc) (t : ℕ) (is : IsArc N D (linksOf us vs ws) i a t) where
+  pub arc-link : a .number / 2 ≤ length us
+  arc-link = omega (arith, div-add-mod' (a .number) 2, arc-high (linksOf us vs ws) a (is .among), length-linksOf us vs ws)
+
+  pub arc-from : arcsEnd N D (a .number / 2) ≤ i
+  arc-from = let h : 2 * (a .number / 2) ≤ a .number = omega (arith, div-add-mod' (a .number) 2) in omega (arith, is .here, mul-le-mul-right D h)
+
+  -- link by link
+  pub arc-under : (k : ℕ) → k < a .number / 2 → arcsEnd N D (k + 1) ≤ i
+  arc-under k h = let g : 2 * (k + 1) ≤ 2 * (a .number / 2) = omega arith in omega (arith, arc-from, mul-le-mul-right D g)
 
 module _ (A N D : ℕ) (us vs ws : List ℕ) where
   -- the weights of the links have no part in a form

@@ -43,6 +43,10 @@ module _ (x : List ℕ) (s e n : ℕ) (is : e ≡ s + n) (fits : e ≤ length x)
         | no h ↦ omega (arith, List·getD-eq-default (slice x s e) 0 (let l : length (slice x s e) ≤ j = omega (arith, slice-length) in l))
       ]
 
+  -- as `set_count` of onehot asks for it
+  pub slice-short : n < 256 → Bits x → Bits (slice x s e) × (length (slice x s e) < 256)
+  slice-short h b = (slice-bits b, rw slice-length h)
+
 -- ---- a part put back, altered
 
 module _ (s : List ℕ) (a e n : ℕ) (is : e ≡ a + n) (fits : e ≤ length s) (y : List ℕ) (size : length y ≡ n) where

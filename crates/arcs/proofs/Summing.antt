@@ -7,9 +7,9 @@ use lib.Seq.{getD-take, length-take-le}
 use native.Mathlib.Omega.{arith}
 use native.Mathlib.Decide.{decLt}
 use native.Mathlib.Numerals.{add-one}
-use native.Mathlib.Nat.{mul-le-mul, mul-add}
+use native.Mathlib.Nat.{mul-le-mul, mul-add, zero-mul}
 use Rattle.lists.specs.Sums.{sumTo, sumOf, gap, nth}
-use Rattle.lists.proofs.Sums.{sumTo-zero, sumTo-next, sumTo-eq, sumTo-split, sumTo-bits, nth-suc}
+use Rattle.lists.proofs.Sums.{gap-small, sumTo-zero, sumTo-next, sumTo-eq, sumTo-none, sumTo-term, sumTo-split, sumTo-bits, nth-suc}
 use Rattle.qubo.specs.Formula.{Bits, Assignment}
 use Rattle.onehot.specs.Choices.{bitAt, setAt, missSquared, misses}
 use Rattle.arcs.specs.Arcs.{Arc, depthBit, depthAt, arcAt}
@@ -81,6 +81,20 @@ pub gaps-end : (part counts : List ℕ) (t n sum : ℕ) → t ≡ n → sum ≡ 
     → sum ≡ sumTo (pred n) (λ j. gap (getD part j 0) (getD counts j 0) * gap (getD part j 0) (getD counts j 0))
 unfolding gapsBefore
 gaps-end part counts t n sum e d = rw e at d
+
+-- (b - c)² for a bit b
+bit-gap : (b c : ℕ) → b ≤ 1 → b + c * c ≡ gap b c * gap b c + 2 * b * c
+unfolding gap
+bit-gap zero c h = let g : gap 0 c ≡ c = omega arith in omega (arith, ap (λ (n : ℕ). n * n) g)
+bit-gap (suc zero) zero h = refl
+bit-gap (suc zero) (suc k) h = let g : gap 1 (suc k) ≡ k = omega arith in omega (arith, ap (λ (n : ℕ). n * n) g)
+bit-gap (suc (suc b)) c h = absurd (omega arith)
+
+-- as the loop reckons it, with room for each step
+pub bit-gap-steps : (b c : ℕ) → b ≤ 1 → c ≤ 48 → (c * c ≤ 2304) × (2 * b * c ≤ 96) × (2 * b * c ≤ b + c * c) × (b + c * c - 2 * b * c ≡ gap b c * gap b c) × (gap b c * gap b c ≤ 2304)
+bit-gap-steps b c h k =
+    let e = bit-gap b c h in
+    (mul-le-mul {n₁ = c} {m₁ = c} {n₂ = 48} {m₂ = 48} k k, mul-le-mul {n₁ = 2 * b} {m₁ = c} {n₂ = 2} {m₂ = 48} (omega arith) k, omega (arith, e), omega (arith, e), gap-small b c 48 (omega arith) k)
 
 -- ---- part_misses: the depths up to i of an arc
 
@@ -233,6 +247,13 @@ pub cost-sum : (N D : ℕ) (ks : List Arc) (x : List ℕ) → sumOf ks (costOf N
 unfolding costOf arcCost
 cost-sum N D ks x = refl
 
+-- bits none of which is set miss nothing
+unset-misses : (D : ℕ) (b m : ℕ → ℕ) → sumTo D b ≡ 0 → sumTo D (λ i. b i * (2 - m i)) ≡ 0
+unset-misses D b m e = sumTo-none D (λ i. b i * (2 - m i)) (λ i p q. unset (b i) (2 - m i) (omega (arith, sumTo-term D b i p q, e)))
+  where
+    unset : (a c : ℕ) → a ≡ 0 → a * c ≡ 0
+    unset a c z = rw z (zero-mul c)
+
 -- the bits of the two arcs of link k lie one after another
 pub link-halves : (N D : ℕ) (x us vs ws : List ℕ) (k : ℕ) → sumTo (2 * D) (λ i. getD x (N * suc D + 2 * k * D + pred i) 0) ≡ sumTo D (arcAt N D x (arcUp us vs ws k)) + sumTo D (arcAt N D x (arcBack us vs ws k))
 unfolding arcAt
@@ -246,17 +267,31 @@ link-halves N D x us vs ws k =
 
 -- what the two arcs of link k give
 module _ (N D : ℕ) (x us vs ws : List ℕ) (k : ℕ) where
-  pub misses-link : (up back : ℕ)
-      → up ≡ sumTo D (λ i. getD x (N * suc D + 2 * k * D + pred i) 0 * (2 - (depthAt D x (getD us k 0) (pred i) + depthAt D x (getD vs k 0) i)))
-      → back ≡ sumTo D (λ i. getD x (N * suc D + (2 * k + 1) * D + pred i) 0 * (2 - (depthAt D x (getD vs k 0) (pred i) + depthAt D x (getD us k 0) i)))
-      → up + back ≡ missesOf N D x (arcUp us vs ws k) + missesOf N D x (arcBack us vs ws k)
+  pub misses-link : (r : ℕ)
+      → r ≡ sumTo D (λ i. getD x (N * suc D + 2 * k * D + pred i) 0 * (2 - (depthAt D x (getD us k 0) (pred i) + depthAt D x (getD vs k 0) i)))
+      + sumTo D (λ i. getD x (N * suc D + (2 * k + 1) * D + pred i) 0 * (2 - (depthAt D x (getD vs k 0) (pred i) + depthAt D x (getD us k 0) i)))
+      → r ≡ missesOf N D x (arcUp us vs ws k) + missesOf N D x (arcBack us vs ws k)
   unfolding missesOf arcAt
-  misses-link up back d e = ap₂ _+_ d e
+  misses-link r e = e
 
   -- where n bits of the two are set
   module _ (a n : ℕ) (start : a ≡ N * suc D + 2 * k * D) (fits : a + 2 * D ≤ length x) (set : n ≡ sumTo (length (slice x a (a + 2 * D))) (nth (slice x a (a + 2 * D)))) where
     both : n ≡ sumTo (2 * D) (λ i. getD x (N * suc D + 2 * k * D + pred i) 0)
     both = set ∙ slice-sum x a (a + 2 * D) (2 * D) refl fits ∙ ap (λ (s : ℕ). sumTo (2 * D) (λ i. getD x (s + pred i) 0)) start
+
+    -- where none is, neither arc misses anything
+    pub misses-none : n ≡ 0 → (u v : ℕ)
+        → 0
+        ≡ sumTo D (λ i. getD x (N * suc D + 2 * k * D + pred i) 0 * (2 - (depthAt D x u (pred i) + depthAt D x v i)))
+        + sumTo D (λ i. getD x (N * suc D + (2 * k + 1) * D + pred i) 0 * (2 - (depthAt D x v (pred i) + depthAt D x u i)))
+    unfolding arcAt
+    misses-none z u v =
+        let h = both ∙ link-halves N D x us vs ws k in
+        omega (
+          arith,
+          unset-misses D (λ i. getD x (N * suc D + 2 * k * D + pred i) 0) (λ i. depthAt D x u (pred i) + depthAt D x v i) (omega (arith, h, z)),
+          unset-misses D (λ i. getD x (N * suc D + (2 * k + 1) * D + pred i) 0) (λ i. depthAt D x v (pred i) + depthAt D x u i) (omega (arith, h, z)),
+        )
 
     pub cost-link : getD ws k 0 * n ≡ costOf N D x (arcUp us vs ws k) + costOf N D x (arcBack us vs ws k)
     unfolding costOf

@@ -6,7 +6,7 @@ ghost use lib.ListN.{length, getD};
 ghost use lib.IntN.{pos, natAbs};
 ghost use Rattle.links.specs.Links.{linksOf};
 ghost use Rattle.qubo.specs.Rows.{addTerms, Room};
-ghost use Rattle.arcs.specs.Arcs.{arcs};
+ghost use Rattle.arcs.specs.Arcs.{arcs, arcsEnd};
 ghost use Rattle.arcs.specs.Formula.{rootTerm, depthTerms, entryTerm, entryTerms, endTerms, weightTerms};
 ghost use Rattle.arcs.specs.Lent.{Lent, Row};
 ghost use Rattle.arcs.specs.Places.{IsPlace};
@@ -31,17 +31,28 @@ fn arc_bit(meters: usize, deepest: usize, number: usize, depth: usize) -> usize
     arc_start(meters, deepest, number) + (depth - 1)
 }
 
-// Adds v times bit i times the bit p of an arc to row i, if its end is the meter.
-fn add_arc(row: &mut [i64], i: usize, p: usize, end: u8, meter: usize, v: i64)
-    requires { ⌜ (1 ≤ length (now row)) × (p < i + length (now row)) × Room (2 ^ 61) (pairAt v i p end meter) (now row) ⌝ }
-    ensures { λ _. ⌜ now (row .exit) ≡ addTerms (pairAt v i p end meter) i (now (row .entry)) ⌝ }
+// Adds v times bit i times the bit of an arc at a depth to row i, if its end is the meter. Few arcs have it for an end: where the bit stands is computed for these alone.
+fn add_arc(
+    row: &mut [i64],
+    i: usize,
+    meters: usize,
+    deepest: usize,
+    number: usize,
+    depth: usize,
+    end: u8,
+    meter: u8,
+    v: i64,
+)
+    requires { ⌜ (1 ≤ length (now row)) × (meters ≤ 48) × (deepest ≤ 24) × (number ≤ 512) × (1 ≤ depth) × (depth ≤ deepest) × (meters * suc deepest + number * deepest + pred depth < i + length (now row)) × Room (2 ^ 61) (pairAt v i (meters * suc deepest + number * deepest + pred depth) end meter) (now row) ⌝ }
+    ensures { λ _. ⌜ now (row .exit) ≡ addTerms (pairAt v i (meters * suc deepest + number * deepest + pred depth) end meter) i (now (row .entry)) ⌝ }
 {
-    if (end as usize) == meter {
+    if end == meter {
+        let p = arc_bit(meters, deepest, number, depth);
         qubo::add_pair(row, i, i, p, v);
     }
 }
 
-// Adds v times bit i times the bit of each arc into the meter to row i, at one depth: of link k the first arc leads from its tail to its head, the second back. With the two arrays swapped these are the arcs out of the meter.
+// Adds v times bit i times the bit of each arc into the meter to row i, at one depth: of link k the first arc leads from its tail to its head, the second back. With the two arrays swapped these are the arcs out of the meter. The walk begins at link `from`: the arc bits of those before it are below bit i, so that their pairs with it stand in other rows.
 fn add_arcs(
     row: &mut [i64],
     i: usize,
@@ -49,24 +60,24 @@ fn add_arcs(
     heads: &[u8],
     meters: usize,
     deepest: usize,
+    from: usize,
     depth: usize,
     meter: usize,
     v: i64,
 )
-    requires { ⌜ Walk meters deepest i (now tails) (now heads) (now row) × (1 ≤ depth) × (depth ≤ deepest) × Room (2 ^ 61) (pairsInto v i meters deepest meter depth (arcsBetween (now tails) (now heads))) (now row) ⌝ }
+    requires { ⌜ Walk meters deepest i (now tails) (now heads) (now row) × (1 ≤ depth) × (depth ≤ deepest) × Room (2 ^ 61) (pairsInto v i meters deepest meter depth (arcsBetween (now tails) (now heads))) (now row) × (meter ≤ 48) × (from ≤ length (now tails)) × ((k : ℕ) → k < from → arcsEnd meters deepest (k + 1) ≤ i) ⌝ }
     ensures { λ _. ⌜ now (row .exit) ≡ addTerms (pairsInto v i meters deepest meter depth (arcsBetween (now (tails .entry)) (now (heads .entry)))) i (now (row .entry)) ⌝ }
 {
-    let mut k: usize = 0;
+    let end = meter as u8;
+    let mut k = from;
     while k < tails.len() {
-        let there = arc_bit(meters, deepest, 2 * k, depth);
-        let back = arc_bit(meters, deepest, 2 * k + 1, depth);
-        add_arc(row, i, there, heads[k], meter, v);
-        add_arc(row, i, back, tails[k], meter, v);
+        add_arc(row, i, meters, deepest, 2 * k, depth, heads[k], end, v);
+        add_arc(row, i, meters, deepest, 2 * k + 1, depth, tails[k], end, v);
         k += 1;
     }
 }
 
-// The same where the depth has arcs, and nothing elsewhere.
+// The same for the arcs of all links, where the depth has arcs, and nothing elsewhere.
 fn add_arcs_within(
     row: &mut [i64],
     i: usize,
@@ -78,7 +89,7 @@ fn add_arcs_within(
     meter: usize,
     v: i64,
 )
-    requires { ⌜ Walk meters deepest i (now tails) (now heads) (now row) × Room (2 ^ 61) (pairsWithin v i meters deepest meter depth (arcsBetween (now tails) (now heads))) (now row) ⌝ }
+    requires { ⌜ Walk meters deepest i (now tails) (now heads) (now row) × Room (2 ^ 61) (pairsWithin v i meters deepest meter depth (arcsBetween (now tails) (now heads))) (now row) × (meter ≤ 48) ⌝ }
     ensures { λ _. ⌜ now (row .exit) ≡ addTerms (pairsWithin v i meters deepest meter depth (arcsBetween (now (tails .entry)) (now (heads .entry)))) i (now (row .entry)) ⌝ }
 {
     if depth == 0 {
@@ -87,7 +98,7 @@ fn add_arcs_within(
     if deepest < depth {
         return;
     }
-    add_arcs(row, i, tails, heads, meters, deepest, depth, meter, v);
+    add_arcs(row, i, tails, heads, meters, deepest, 0, depth, meter, v);
 }
 
 // Adds A times (1 - number of depth-0 bits)² to row i. These are every deepest + 1st bit from the first on.
@@ -114,7 +125,7 @@ pub fn add_depths(row: &mut [i64], i: usize, meters: usize, deepest: usize, pena
     }
 }
 
-// Adds A times (depth bit of a meter - arcs into it at that depth)² to row i, where q is 2 A times the coefficient of bit i in it, which is 1 or -1.
+// Adds A times (depth bit of a meter - arcs into it at that depth)² to row i, where q is 2 A times the coefficient of bit i in it, which is 1 or -1. The arc bits of links before `from` are below bit i.
 fn add_entry(
     row: &mut [i64],
     i: usize,
@@ -123,11 +134,12 @@ fn add_entry(
     meters: usize,
     deepest: usize,
     penalty: u64,
+    from: usize,
     meter: usize,
     depth: usize,
     q: i64,
 )
-    requires { ⌜ Row (2 ^ 59) meters deepest penalty (length (now us)) i (now row) × Walk meters deepest i (now us) (now vs) (now row) × (1 ≤ meter) × (meter ≤ meters) × (1 ≤ depth) × (depth ≤ deepest) × Held penalty meters deepest (arcsBetween (now us) (now vs)) meter depth i q ⌝ }
+    requires { ⌜ Row (2 ^ 59) meters deepest penalty (length (now us)) i (now row) × Walk meters deepest i (now us) (now vs) (now row) × (1 ≤ meter) × (meter ≤ meters) × (1 ≤ depth) × (depth ≤ deepest) × Held penalty meters deepest (arcsBetween (now us) (now vs)) meter depth i q × (from ≤ length (now us)) × ((k : ℕ) → k < from → arcsEnd meters deepest (k + 1) ≤ i) ⌝ }
     ensures { λ _. ⌜ now (row .exit) ≡ addTerms (entryTerm penalty meters deepest (arcsBetween (now (us .entry)) (now (vs .entry))) meter depth ∷ []) i (now (row .entry)) ⌝ }
 {
     let less = 0 - (penalty as i64);
@@ -135,10 +147,21 @@ fn add_entry(
     let own = depth_bit(deepest, meter, depth);
     qubo::add_single(row, i, i, less);
     qubo::add_pair(row, i, i, own, q);
-    add_arcs(row, i, us, vs, meters, deepest, depth, meter, opposite);
+    add_arcs(
+        row,
+        i,
+        us,
+        vs,
+        meters,
+        deepest,
+        from,
+        depth,
+        meter,
+        opposite,
+    );
 }
 
-// Adds A times the sum per meter and depth from 1 on of (its depth bit - arcs into it)² to row i. A depth bit is in the term of its meter and depth, an arc's in that of its child.
+// Adds A times the sum per meter and depth from 1 on of (its depth bit - arcs into it)² to row i. A depth bit is in the term of its meter and depth, an arc's in that of its child. Link k's arcs are number 2 k and 2 k + 1.
 pub fn add_entries(
     row: &mut [i64],
     i: usize,
@@ -155,35 +178,20 @@ pub fn add_entries(
 {
     let twice = (2 * penalty) as i64;
     match place {
-        Place::OfDepth { meter, depth } => {
+        Place::OfDepth { meter: m, depth } => {
             if 0 < depth {
-                add_entry(
-                    row,
-                    i,
-                    us,
-                    vs,
-                    meters,
-                    deepest,
-                    penalty,
-                    meter,
-                    depth,
-                    twice,
-                );
+                add_entry(row, i, us, vs, meters, deepest, penalty, 0, m, depth, twice);
             }
         }
-        Place::OfArc { child, depth, .. } => {
-            add_entry(
-                row,
-                i,
-                us,
-                vs,
-                meters,
-                deepest,
-                penalty,
-                child,
-                depth,
-                0 - twice,
-            );
+        Place::OfArc {
+            number,
+            child: v,
+            depth,
+            ..
+        } => {
+            let k = number / 2;
+            let less = 0 - twice;
+            add_entry(row, i, us, vs, meters, deepest, penalty, k, v, depth, less);
         }
         Place::Behind => {}
     }

@@ -44,30 +44,41 @@ pub fn depth_misses(bits: &[u8], meters: usize, deepest: usize) -> u64
     onehot::misses_of(&bits[..end], meters, n)
 }
 
+// Adds the bits of a part to as many counts, all in bytes, so that the loop compiles to wide byte operations.
+fn add_bits(counts: &mut [u8], part: &[u8])
+    requires { ⌜ (length (now part) ≡ length (now counts)) × Bits (now part) × ((i : ℕ) → i < length (now counts) → getD (now counts) i 0 < 255) ⌝ }
+    ensures { λ _. ⌜ (length (now (counts .exit)) ≡ length (now (counts .entry))) × ((i : ℕ) → i < length (now (counts .entry)) → getD (now (counts .exit)) i 0 ≡ getD (now (counts .entry)) i 0 + getD (now (part .entry)) i 0) ⌝ }
+{
+    let mut i: usize = 0;
+    while i < part.len() {
+        counts[i] = counts[i] + part[i];
+        i += 1;
+    }
+}
+
 // Counts an arc into its child's places, at each depth that it has.
 fn add_arc(
-    counts: &mut [u64],
+    counts: &mut [u8],
     bits: &[u8],
     meters: usize,
     deepest: usize,
     number: usize,
     child: usize,
 )
-    requires { ⌜ (meters ≤ 48) × (deepest ≤ 24) × (number < 512) × (1 ≤ child) × (child ≤ meters) × Bits (now bits) × (meters * suc deepest + number * deepest + deepest ≤ length (now bits)) × (length (now counts) ≡ 1200) × ((i : ℕ) → getD (now counts) i 0 < 4294967296) ⌝ }
-    ensures { λ _. ⌜ (length (now (counts .exit)) ≡ 1200) × ((v t : ℕ) → 1 ≤ v → 1 ≤ t → t ≤ deepest → getD (now (counts .exit)) (depthBit deepest v t) 0 ≡ getD (now (counts .entry)) (depthBit deepest v t) 0 + same child v * getD (now (bits .entry)) (meters * suc deepest + number * deepest + pred t) 0) × ((i : ℕ) → getD (now (counts .exit)) i 0 ≤ getD (now (counts .entry)) i 0 + 1) ⌝ }
+    requires { ⌜ (meters ≤ 48) × (deepest ≤ 24) × (number < 512) × (1 ≤ child) × (child ≤ meters) × Bits (now bits) × (meters * suc deepest + number * deepest + deepest ≤ length (now bits)) × (length (now counts) ≡ 1200) × ((t : ℕ) → 1 ≤ t → t ≤ deepest → getD (now counts) (depthBit deepest child t) 0 < 255) ⌝ }
+    ensures { λ _. ⌜ (length (now (counts .exit)) ≡ 1200) × ((v t : ℕ) → 1 ≤ v → 1 ≤ t → t ≤ deepest → getD (now (counts .exit)) (depthBit deepest v t) 0 ≡ getD (now (counts .entry)) (depthBit deepest v t) 0 + same child v * getD (now (bits .entry)) (meters * suc deepest + number * deepest + pred t) 0) ⌝ }
 {
-    let first = depth_start(deepest, child);
+    let first = depth_start(deepest, child) + 1;
     let start = arc_start(meters, deepest, number);
-    onehot::add_part(
-        &mut counts[first..first + deepest + 1],
+    add_bits(
+        &mut counts[first..first + deepest],
         &bits[start..start + deepest],
-        1,
     );
 }
 
-// The arcs into each meter at each depth, in one walk of the links.
+// The arcs into each meter at each depth, in one walk of the links. A meter has at most 47 links, so each count fits in a byte.
 fn gather_entries(
-    counts: &mut [u64],
+    counts: &mut [u8],
     bits: &[u8],
     us: &[u8],
     vs: &[u8],
@@ -88,22 +99,24 @@ fn gather_entries(
     }
 }
 
-// The squared gaps between one meter's depth bits and the arcs counted, from depth 1 on.
-fn part_gaps(part: &[u8], counts: &[u64]) -> u64
+// The squared gaps between one meter's depth bits and the arcs counted, from depth 1 on. For a bit b, which is its own square, (b - c)² is b + c² - 2bc; 24 of these fit in 16 bits.
+fn part_gaps(part: &[u8], counts: &[u8]) -> u64
     requires { ⌜ (1 ≤ length (now part)) × (length (now part) ≤ 25) × (length (now counts) ≡ length (now part)) × Bits (now part) × ((t : ℕ) → 1 ≤ t → t < length (now part) → getD (now counts) t 0 ≤ 48) ⌝ }
     ensures { λ r. ⌜ (r ≡ sumTo (pred (length (now (part .entry)))) (λ t. gap (getD (now (part .entry)) t 0) (getD (now (counts .entry)) t 0) * gap (getD (now (part .entry)) t 0) (getD (now (counts .entry)) t 0))) × (r ≤ 55296) ⌝ }
 {
-    let mut sum: u64 = 0;
+    let mut sum: u16 = 0;
     let mut t: usize = 1;
     while t < part.len() {
-        sum += onehot::gap_squared(part[t] as u64, counts[t]);
+        let b = part[t] as u16;
+        let c = counts[t] as u16;
+        sum += b + c * c - 2 * b * c;
         t += 1;
     }
-    sum
+    sum as u64
 }
 
 // The same over all meters.
-fn meter_gaps(bits: &[u8], counts: &[u64], meters: usize, deepest: usize) -> u64
+fn meter_gaps(bits: &[u8], counts: &[u8], meters: usize, deepest: usize) -> u64
     requires { ⌜ (meters ≤ 48) × (deepest ≤ 24) × Bits (now bits) × (meters * suc deepest ≤ length (now bits)) × (length (now counts) ≡ 1200) × ((v t : ℕ) → 1 ≤ v → 1 ≤ t → t ≤ deepest → getD (now counts) (depthBit deepest v t) 0 ≤ 48) ⌝ }
     ensures { λ r. ⌜ (r ≡ sumTo meters (λ v. sumTo deepest (λ t. gap (depthAt deepest (now (bits .entry)) v t) (getD (now (counts .entry)) (depthBit deepest v t) 0) * gap (depthAt deepest (now (bits .entry)) v t) (getD (now (counts .entry)) (depthBit deepest v t) 0)))) × (r ≤ 2654208) ⌝ }
 {
@@ -130,24 +143,24 @@ pub fn entry_gaps(
     requires { ⌜ Lent meters deepest (now us) (now vs) (now ws) × Bits (now bits) × (arcsEnd meters deepest (length (now us)) ≤ length (now bits)) ⌝ }
     ensures { λ r. ⌜ (r ≡ entryGaps meters deepest (arcs (linksOf (now (us .entry)) (now (vs .entry)) (now (ws .entry)))) (depthAt deepest (now (bits .entry))) (arcAt meters deepest (now (bits .entry)))) × (r ≤ 2654208) ⌝ }
 {
-    let mut counts: [u64; 1200] = [0; 1200];
+    let mut counts: [u8; 1200] = [0; 1200];
     gather_entries(&mut counts[..1200], bits, us, vs, ws, meters, deepest);
     meter_gaps(bits, &counts[..1200], meters, deepest)
 }
 
-// Over an arc's bits: the bit times (2 - [parent one less deep] - [child as deep]).
+// Over an arc's bits: the bit times (2 - [parent one less deep] - [child as deep]). At most 24 bits give a sum that fits in a byte, so that the loop compiles to wide byte operations.
 fn part_misses(part: &[u8], above: &[u8], below: &[u8]) -> u64
     requires { ⌜ (length (now part) ≤ 24) × (length (now above) ≡ length (now part)) × (length (now below) ≡ length (now part)) × Bits (now part) × Bits (now above) × Bits (now below) ⌝ }
     ensures { λ r. ⌜ (r ≡ sumTo (length (now (part .entry))) (λ i. nth (now (part .entry)) i * (2 - (nth (now (above .entry)) i + nth (now (below .entry)) i)))) × (r ≤ 48) ⌝ }
 {
-    let mut sum: u64 = 0;
+    let mut sum: u8 = 0;
     let mut i: usize = 0;
     while i < part.len() {
-        let set = (above[i] as u64) + (below[i] as u64);
-        sum += (part[i] as u64) * (2 - set);
+        let set = above[i] + below[i];
+        sum += part[i] * (2 - set);
         i += 1;
     }
-    sum
+    sum as u64
 }
 
 // The same for one arc.
@@ -172,6 +185,20 @@ fn arc_misses(
     )
 }
 
+// The same for both arcs of link k. Few links of a tree have a bit set, and one count passes the others over.
+fn link_misses(bits: &[u8], meters: usize, deepest: usize, k: usize, u: usize, v: usize) -> u64
+    requires { ⌜ (meters ≤ 48) × (deepest ≤ 24) × (k < 256) × (1 ≤ u) × (u ≤ meters) × (1 ≤ v) × (v ≤ meters) × Bits (now bits) × (meters * suc deepest + (2 * k + 1) * deepest + deepest ≤ length (now bits)) ⌝ }
+    ensures { λ r. ⌜ (r ≡ sumTo deepest (λ i. getD (now (bits .entry)) (meters * suc deepest + 2 * k * deepest + pred i) 0 * (2 - (depthAt deepest (now (bits .entry)) u (pred i) + depthAt deepest (now (bits .entry)) v i))) + sumTo deepest (λ i. getD (now (bits .entry)) (meters * suc deepest + (2 * k + 1) * deepest + pred i) 0 * (2 - (depthAt deepest (now (bits .entry)) v (pred i) + depthAt deepest (now (bits .entry)) u i)))) × (r ≤ 96) ⌝ }
+{
+    let start = arc_start(meters, deepest, 2 * k);
+    if onehot::set_count(&bits[start..start + 2 * deepest]) == 0 {
+        return 0;
+    }
+    let there = arc_misses(bits, meters, deepest, 2 * k, u, v);
+    let back = arc_misses(bits, meters, deepest, 2 * k + 1, v, u);
+    there + back
+}
+
 // Per arc and depth, its bit times (2 - [parent one less deep] - [child as deep]).
 pub fn end_misses(
     bits: &[u8],
@@ -189,9 +216,7 @@ pub fn end_misses(
     while k < us.len() {
         let u = us[k] as usize;
         let v = vs[k] as usize;
-        let there = arc_misses(bits, meters, deepest, 2 * k, u, v);
-        let back = arc_misses(bits, meters, deepest, 2 * k + 1, v, u);
-        sum += there + back;
+        sum += link_misses(bits, meters, deepest, k, u, v);
         k += 1;
     }
     sum

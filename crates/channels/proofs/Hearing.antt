@@ -1,15 +1,18 @@
 -- Laws that the proofs of src/silent.rt cite: what each meter bears and what a meter hears of it, gathered link by link, and the channel on which it hears least. Assumes nothing.
-use Prim.Native.Nat.{ℕ, _+_, _-_, _*_, _≤_, _<_}
+use Prim.Native.Nat.{ℕ, zero, suc, _+_, _-_, _*_, _≤_, _<_}
 use mathlib.Core.Path.{_≡_, refl, sym, _∙_}
 use mathlib.Core.List.{List}
 use lib.ListN.{length, getD, set, length-set}
 use native.Mathlib.Omega.{arith}
-use native.Mathlib.Nat.{mul-le-mul-right, mul-zero, zero-mul, one-mul, zero-add, add-zero}
-use Rattle.lists.specs.Sums.{leastAt, same, nth}
+use native.Mathlib.Decide.{ℕ-discrete}
+use native.Mathlib.Numerals.{add-one}
+use native.Mathlib.Nat.{le-refl, mul-le-mul-right, mul-zero, zero-mul, one-mul, zero-add, add-zero}
+use Rattle.lists.specs.Sums.{sumOf, leastAt, same, nth}
 use Rattle.lists.proofs.Sums.{same-yes, same-no, same-le, nth-index, times-bit, leastAt-eq, leastAt-one, leastAt-new, leastAt-old}
 use Rattle.lists.proofs.Stores.{added-same}
-use Rattle.links.specs.Links.{Link, linkIn, linksOf}
-use Rattle.links.proofs.Walk.{link-at, arrays-few, Summed, summed-start, summed-turn, summed-skip, summed-end}
+use Rattle.links.specs.Links.{Link, linkIn, linksFrom, linksOf}
+use Rattle.links.proofs.Halving.{ends-rise}
+use Rattle.links.proofs.Walk.{link-at, arrays-few, sumFrom, sum-turn, sum-end, Summed, summed-start, summed-turn, summed-skip, summed-end}
 use Rattle.qubo.specs.Formula.{Bits, Assignment}
 use Rattle.onehot.specs.Lent.{Lent}
 use Rattle.onehot.proofs.Parts.{partOf, cut-small}
@@ -48,7 +51,15 @@ module _ (n : ℕ) (x p : List ℕ) (m w : ℕ) (s t : List ℕ) (size : length 
     most,
   )
 
--- ---- gather_heard: what meter m hears on each channel of the first k links
+-- ---- next_of: the links from `from` up to k have another upper end
+
+abbrev pub Passed : List ℕ → ℕ → ℕ → ℕ → Type 0
+Passed vs m from k = (j : ℕ) → from ≤ j → j < k → getD vs j 0 ≡ m → ⊥
+
+pub passed-next : (vs : List ℕ) (m from k : ℕ) → Passed vs m from k → (getD vs k 0 ≡ m → ⊥) → Passed vs m from (k + 1)
+passed-next vs m from k g n j a b e = elim (ℕ-discrete j k) [ yes d ↦ n (rw d at e) | no d ↦ g j a (omega arith) e ]
+
+-- ---- gather_lower, gather_higher: what meter m hears on each channel of the first k links
 
 -- what a link adds on channel i, where b says what a meter bears
 pub hears : (ℕ → ℕ → ℕ) → ℕ → ℕ → Link → ℕ
@@ -68,6 +79,12 @@ module _ (b : ℕ → ℕ → ℕ) (m i : ℕ) (l : Link) where
   unfolding hears
   hears-none e d = rw (same-no (l .u) m e, same-no (l .v) m d, zero-mul (b (l .v) i), zero-mul (b (l .u) i), mul-zero) refl
 
+-- a sum over the links from k on, of which there are r, is one over the list of them
+sum-left : (us vs ws : List ℕ) (f : Link → ℕ) (r k : ℕ) → k + r ≡ length us → sumFrom us vs ws f k ≡ sumOf (linksFrom us vs ws k r) f
+unfolding linksFrom sumOf
+sum-left us vs ws f zero k e = sum-end us vs ws f k (omega arith)
+sum-left us vs ws f (suc r) k e = sum-turn us vs ws f k (omega arith) ∙ rw (add-one k, sum-left us vs ws f r (suc k) (omega arith)) refl
+
 -- in place i stands what m hears on channel i, and no place holds much
 pub record HeardSoFar (n : ℕ) (x p us vs ws : List ℕ) (m k : ℕ) (sums : List ℕ) : Type 0 where
   pub size : length sums ≡ 256
@@ -81,6 +98,22 @@ module _ (n : ℕ) (x p us vs ws : List ℕ) (m : ℕ) where
     small = λ i. omega (arith, z i);
     so-far = λ i a b. rw (z i) (summed-start us vs ws (hears (bears n x p) m i));
   }
+
+  -- the same in the words of the contracts: the sums and what is heard of the links from k on make up the whole
+  module _ (k : ℕ) (h : k ≤ length us) (s : List ℕ) where
+    left-heard : (i : ℕ) → sumFrom us vs ws (hears (bears n x p) m i) k ≡ heard (linksFrom us vs ws k (length us - k)) (bears n x p) m i
+    unfolding heard hears
+    left-heard i = sum-left us vs ws (hears (bears n x p) m i) (length us - k) k (omega arith)
+
+    all-heard : (i : ℕ) → sumOf (linksOf us vs ws) (hears (bears n x p) m i) ≡ heard (linksOf us vs ws) (bears n x p) m i
+    unfolding heard hears
+    all-heard i = refl
+
+    pub heard-left : HeardSoFar n x p us vs ws m k s → (i : ℕ) → 1 ≤ i → i ≤ n → getD s i 0 + heard (linksFrom us vs ws k (length us - k)) (bears n x p) m i ≡ heard (linksOf us vs ws) (bears n x p) m i
+    heard-left g i a b = omega (arith, g .so-far i a b .whole, left-heard i, all-heard i)
+
+    pub heard-from : length s ≡ 256 → ((i : ℕ) → getD s i 0 ≤ 65535 * k) → ((i : ℕ) → 1 ≤ i → i ≤ n → getD s i 0 + heard (linksFrom us vs ws k (length us - k)) (bears n x p) m i ≡ heard (linksOf us vs ws) (bears n x p) m i) → HeardSoFar n x p us vs ws m k s
+    heard-from e l w = record { size = e; small = l; so-far = λ i a b. record { whole = omega (arith, w i a b, left-heard i, all-heard i) } }
 
   pub heard-end : (k : ℕ) (s : List ℕ) → HeardSoFar n x p us vs ws m k s → length us ≤ k → (i : ℕ) → 1 ≤ i → i ≤ n → getD s i 0 ≡ heard (linksOf us vs ws) (bears n x p) m i
   unfolding heard hears
@@ -126,16 +159,26 @@ module _ (N n : ℕ) (x p us vs ws : List ℕ) (lent : Lent N n us vs ws) (bits 
     so-far = λ i a b. summed-skip us vs ws (hears (bears n x p) m i) k (getD s i 0) (g .so-far i a b) h (hears-none (bears n x p) m i (linkIn us vs ws k) e d);
   }
 
-  -- the same of sums that are the ones after the turn
-  module _ (kept : List ℕ) where
-    pub kept-up : getD us k 0 ≡ m → (t : List ℕ) → kept ≡ t → BorneAdded n x p (getD vs k 0) (getD ws k 0) s t → HeardSoFar n x p us vs ws m (k + 1) kept
-    kept-up e t d b = rw d (heard-up t e b)
+-- links with no end m add nothing
+module _ (N n : ℕ) (x p us vs ws : List ℕ) (lent : Lent N n us vs ws) (bits : Assignment (N * n) x) (m : ℕ) (s : List ℕ) (end : ℕ) (within : end ≤ length us) where
+  heard-over : (r k : ℕ) → r + k ≡ end → ((j : ℕ) → k ≤ j → j < end → (getD us j 0 ≡ m → ⊥) × (getD vs j 0 ≡ m → ⊥)) → HeardSoFar n x p us vs ws m k s → HeardSoFar n x p us vs ws m end s
+  heard-over zero k e other g = let d : k ≡ end = omega arith in rw (← d) g
+  heard-over (suc r) k e other g =
+      let t = other k (omega arith) (omega arith) in
+      heard-over r (k + 1) (omega arith) (λ j a b. other j (omega arith) b) (heard-none N n x p us vs ws lent bits m k (omega arith) s g (t .0) (t .1))
 
-    pub kept-down : (getD us k 0 ≡ m → ⊥) → getD vs k 0 ≡ m → (t : List ℕ) → kept ≡ t → BorneAdded n x p (getD us k 0) (getD ws k 0) s t → HeardSoFar n x p us vs ws m (k + 1) kept
-    kept-down e f t d b = rw d (heard-down t e f b)
+  -- from k on
+  pub heard-past : (k : ℕ) → k ≤ end → ((j : ℕ) → k ≤ j → j < end → (getD us j 0 ≡ m → ⊥) × (getD vs j 0 ≡ m → ⊥)) → HeardSoFar n x p us vs ws m k s → HeardSoFar n x p us vs ws m end s
+  heard-past k h = heard-over (end - k) k (omega arith)
 
-    pub kept-none : (getD us k 0 ≡ m → ⊥) → (getD vs k 0 ≡ m → ⊥) → kept ≡ s → HeardSoFar n x p us vs ws m (k + 1) kept
-    kept-none e f d = rw d (heard-none e f)
+-- from the first link of a higher meter on, none has an end m
+module _ (N n : ℕ) (x p us vs ws : List ℕ) (lent : Lent N n us vs ws) (bits : Assignment (N * n) x) (m : ℕ) (s : List ℕ) where
+  pub heard-stop : (k : ℕ) → HeardSoFar n x p us vs ws m k s → k < length us → m ≤ getD us k 0 → (getD us k 0 ≡ m → ⊥) → (i : ℕ) → 1 ≤ i → i ≤ n → getD s i 0 ≡ heard (linksOf us vs ws) (bears n x p) m i
+  heard-stop k g h low ne =
+      heard-end n x p us vs ws m (length us) s
+      (heard-past N n x p us vs ws lent bits m s (length us) (le-refl (length us)) k (omega arith)
+      (λ j a b. (λ d. omega (arith, ends-rise N us vs ws (lent .arrays) k j a b), λ d. omega (arith, ends-rise N us vs ws (lent .arrays) k j a b, link-at N us vs ws (lent .arrays) j b))) g)
+      (omega arith)
 
 -- ---- least_sum: the place of 1..i whose sum is least
 

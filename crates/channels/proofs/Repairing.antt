@@ -1,16 +1,17 @@
 -- Laws that the proofs of src/repair.rt cite: a meter's channel, and the plan meter by meter. Assumes nothing.
 use Prim.Native.Nat.{ℕ, _+_, _-_, _*_, _≤_, _<_}
 use mathlib.Core.Path.{_≡_, refl, sym, ap, _∙_}
+use mathlib.Core.Logic.{⊎-elim}
 use mathlib.Core.List.{List, [], _∷_, _++_}
 use lib.ListN.{length, set, take, drop}
 use lib.Seq.{take-suc-set, take-all}
 use native.Mathlib.Omega.{arith}
 use native.Mathlib.Numerals.{add-one}
 use Rattle.lists.specs.Sums.{sumTo, lowest, differ, nth}
-use Rattle.lists.proofs.Sums.{differ-yes, differ-no}
+use Rattle.lists.proofs.Sums.{differ-yes, differ-no, sumTo-term, lowest-cases}
 use Rattle.links.specs.Links.{Link}
 use Rattle.onehot.specs.Choices.{bitAt, setAt}
-use Rattle.onehot.proofs.Parts.{part-count, part-lowest}
+use Rattle.onehot.proofs.Parts.{part-lowest}
 use Rattle.channels.specs.Repair.{quietest, repairOne, repairBy, decoded, repaired}
 use Rattle.channels.proofs.Repaired.{quietest-picks, repair-silent, repair-lowest, repair-one}
 
@@ -20,16 +21,24 @@ use Rattle.channels.proofs.Repaired.{quietest-picks, repair-silent, rep
 pub channel-le : (n : ℕ) (ls : List Link) (x p : List ℕ) (m r : ℕ) → 1 ≤ n → r ≡ repairOne n x (quietest n ls x p m) m → r ≤ n
 channel-le n ls x p m r h e = rw e (repair-one n x (quietest n ls x p m) m (quietest-picks n ls x h p m .0) (quietest-picks n ls x h p m .1) .1)
 
--- as the code finds it, from the part of the bits of meter m
-module _ (n N m : ℕ) (x part : List ℕ) (k : ℕ) (is : part ≡ take n (drop ((m - 1) * n) x)) (m1 : 1 ≤ m) (mN : m ≤ N) (size : length x ≡ N * n) (count : k ≡ sumTo (length part) (nth part)) where
-  counted : k ≡ setAt n (bitAt n x) m
-  counted = count ∙ part-count n N m x part is m1 mN (omega arith)
+-- as the code finds it, from the lowest bit set in the part of meter m, 0 where none is
+module _ (n N m : ℕ) (x part : List ℕ) (c : ℕ) (is : part ≡ take n (drop ((m - 1) * n) x)) (m1 : 1 ≤ m) (mN : m ≤ N) (size : length x ≡ N * n) (found : c ≡ lowest (length part) (nth part)) where
+  found-lowest : c ≡ lowest n (bitAt n x m)
+  found-lowest = found ∙ part-lowest n N m x part is m1 mN (omega arith)
 
-  pub meter-silent : (silent : ℕ) → k ≡ 0 → silent ≡ repairOne n x silent m
-  meter-silent silent e = sym (repair-silent n x silent m (sym counted ∙ e))
+  none-set : c ≡ 0 → setAt n (bitAt n x) m ≡ 0
+  unfolding setAt
+  none-set e = ⊎-elim (λ z. z .0) (λ t. absurd (omega (arith, found-lowest))) (lowest-cases n (bitAt n x m))
 
-  pub meter-lowest : (silent : ℕ) → (k ≡ 0 → ⊥) → lowest (length part) (nth part) ≡ repairOne n x silent m
-  meter-lowest silent e = part-lowest n N m x part is m1 mN (omega arith) ∙ sym (repair-lowest n x silent m (λ z. e (counted ∙ z)))
+  some-set : (c ≡ 0 → ⊥) → setAt n (bitAt n x) m ≡ 0 → ⊥
+  unfolding setAt
+  some-set e z = ⊎-elim (λ y. e (found-lowest ∙ y .1)) (λ t. omega (arith, t, sumTo-term n (bitAt n x m) (lowest n (bitAt n x m)) (t .0) (t .1))) (lowest-cases n (bitAt n x m))
+
+  pub meter-silent : (silent : ℕ) → c ≡ 0 → silent ≡ repairOne n x silent m
+  meter-silent silent e = sym (repair-silent n x silent m (none-set e))
+
+  pub meter-lowest : (silent : ℕ) → (c ≡ 0 → ⊥) → c ≡ repairOne n x silent m
+  meter-lowest silent e = found-lowest ∙ sym (repair-lowest n x silent m (some-set e))
 
 -- ---- the plan, one meter more
 

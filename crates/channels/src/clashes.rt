@@ -1,13 +1,11 @@
-// Sums over the links: what clashes in an assignment, and in a plan.
+// What clashes in an assignment, added up over the links.
 ghost use Prim.Native.Nat.{_*_, _≤_};
 ghost use mathlib.Core.Path.{_≡_};
 ghost use lib.ListN.{length};
 ghost use Rattle.links.specs.Links.{linksOf};
-ghost use Rattle.links.specs.Survey.{Arrays};
 ghost use Rattle.qubo.specs.Formula.{Assignment};
 ghost use Rattle.onehot.specs.Choices.{bitAt};
 ghost use Rattle.onehot.specs.Lent.{Lent};
-ghost use Rattle.channels.specs.Plans.{clashWeight};
 ghost use Rattle.channels.specs.Formula.{clashingOf};
 
 // For each link and channel, the weight if both ends have that channel.
@@ -20,24 +18,6 @@ pub fn clashing(bits: &[u8], us: &[u8], vs: &[u8], ws: &[u16], meters: usize, n:
     while k < us.len() {
         let both = onehot::shared(bits, us[k], vs[k], n);
         sum += (ws[k] as u64) * both;
-        k += 1;
-    }
-    sum
-}
-
-// The clash weight of a plan.
-pub fn clash_weight(plan: &[u8], us: &[u8], vs: &[u8], ws: &[u16], meters: usize) -> u64
-    requires { ⌜ Arrays meters (now us) (now vs) (now ws) × (length (now plan) ≡ meters) ⌝ }
-    ensures { λ r. ⌜ r ≡ clashWeight (linksOf (now (us .entry)) (now (vs .entry)) (now (ws .entry))) (now (plan .entry)) ⌝ }
-{
-    let mut sum: u64 = 0;
-    let mut k = 0;
-    while k < us.len() {
-        let u = us[k] as usize;
-        let v = vs[k] as usize;
-        if plan[u - 1] == plan[v - 1] {
-            sum += ws[k] as u64;
-        }
         k += 1;
     }
     sum

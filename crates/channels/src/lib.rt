@@ -140,7 +140,7 @@ pub fn decode(
     ensures repaired { λ r. ⌜ r .repaired ≡ repaired meters n (now (bits .entry)) ⌝ }
 {
     repair::repair_all(bits, us, vs, ws, meters, n, plan);
-    let weight = clashes::clash_weight(plan, us, vs, ws, meters);
+    let weight = onehot::alike_weight(plan, us, vs, ws, meters);
     let count = repair::repaired_count(bits, meters, n);
     Decoded {
         weight: weight,

@@ -24,11 +24,12 @@ fn repair_meter(
     requires { ⌜ (now part ≡ take n (drop ((m - 1) * n) (now bits))) × (1 ≤ m) × (m ≤ meters) ⌝ }
     ensures { λ r. ⌜ r ≡ repairOne n (now (bits .entry)) (quietest n (linksOf (now (us .entry)) (now (vs .entry)) (now (ws .entry))) (now (bits .entry)) (now (plan .entry)) m) m ⌝ }
 {
-    let k = onehot::set_count(part);
-    if k == 0 {
+    let c = onehot::lowest_set(part);
+    // 0 only where no bit is set
+    if c == 0 {
         return silent::quietest_at(bits, plan, us, vs, ws, meters, n, m);
     }
-    onehot::lowest_set(part)
+    c
 }
 
 // The plan of an assignment.

@@ -1,9 +1,9 @@
 // A meter with no bit set: the channel on which it hears least of its neighbours.
-ghost use Prim.Native.Nat.{ℕ, _+_, _*_, _≤_, _<_};
+ghost use Prim.Native.Nat.{ℕ, _+_, _-_, _*_, _≤_, _<_};
 ghost use mathlib.Core.Path.{_≡_};
 ghost use lib.ListN.{length, getD};
 ghost use Rattle.lists.specs.Sums.{leastAt};
-ghost use Rattle.links.specs.Links.{linksOf};
+ghost use Rattle.links.specs.Links.{linksFrom, linksOf};
 ghost use Rattle.qubo.specs.Formula.{Bits, Assignment};
 ghost use Rattle.onehot.specs.Lent.{Lent};
 ghost use Rattle.channels.specs.Repair.{bears, heard, quietest};
@@ -23,7 +23,73 @@ fn add_borne(sums: &mut [u64], bits: &[u8], plan: &[u8], n: usize, m: usize, w: 
     onehot::add_part(sums, &bits[start..end], w);
 }
 
-// For each channel, the total weight of the links of meter m to neighbours that bear it, in one walk; a channel's number is a byte.
+// The index of the first link from `from` on, and before `end`, whose upper end is m; `end` where there is none. A loop that only looks is short, and so quick.
+fn next_of(vs: &[u8], m: usize, from: usize, end: usize) -> usize
+    requires { ⌜ (from ≤ end) × (end ≤ length (now vs)) ⌝ }
+    ensures { λ r. ⌜ (from ≤ r) × (r ≤ end) × ((k : ℕ) → from ≤ k → k < r → getD (now (vs .entry)) k 0 ≡ m → ⊥) × (r < end → getD (now (vs .entry)) r 0 ≡ m) ⌝ }
+{
+    let mut k = from;
+    while k < end {
+        if vs[k] as usize == m {
+            return k;
+        }
+        k += 1;
+    }
+    end
+}
+
+// Adds what meter m hears of its lower neighbours. Links rise by their lower end, so those of lower neighbours stand before `first`, the first link from m up.
+fn gather_lower(
+    sums: &mut [u64],
+    bits: &[u8],
+    plan: &[u8],
+    us: &[u8],
+    vs: &[u8],
+    ws: &[u16],
+    meters: usize,
+    n: usize,
+    m: usize,
+    first: usize,
+)
+    requires { ⌜ Lent meters n (now us) (now vs) (now ws) × Assignment (meters * n) (now bits) × (length (now sums) ≡ 256) × ((i : ℕ) → getD (now sums) i 0 ≡ 0) ⌝ }
+    requires { ⌜ (first ≤ length (now us)) × ((k : ℕ) → k < first → getD (now us) k 0 < m) ⌝ }
+    ensures { λ _. ⌜ (length (now (sums .exit)) ≡ 256) × ((i : ℕ) → getD (now (sums .exit)) i 0 ≤ 65535 * first) × ((i : ℕ) → 1 ≤ i → i ≤ n → getD (now (sums .exit)) i 0 + heard (linksFrom (now (us .entry)) (now (vs .entry)) (now (ws .entry)) first (length (now (us .entry)) - first)) (bears n (now (bits .entry)) (now (plan .entry))) m i ≡ heard (linksOf (now (us .entry)) (now (vs .entry)) (now (ws .entry))) (bears n (now (bits .entry)) (now (plan .entry))) m i) ⌝ }
+{
+    let mut k = next_of(vs, m, 0, first);
+    while k < first {
+        add_borne(sums, bits, plan, n, us[k] as usize, ws[k] as u64);
+        k = next_of(vs, m, k + 1, first);
+    }
+}
+
+// Adds what meter m hears of its higher neighbours: their links stand together, from `first` on.
+fn gather_higher(
+    sums: &mut [u64],
+    bits: &[u8],
+    plan: &[u8],
+    us: &[u8],
+    vs: &[u8],
+    ws: &[u16],
+    meters: usize,
+    n: usize,
+    m: usize,
+    first: usize,
+)
+    requires { ⌜ Lent meters n (now us) (now vs) (now ws) × Assignment (meters * n) (now bits) × (length (now sums) ≡ 256) × ((i : ℕ) → getD (now sums) i 0 ≤ 65535 * first) ⌝ }
+    requires { ⌜ (first ≤ length (now us)) × ((k : ℕ) → first ≤ k → k < length (now us) → m ≤ getD (now us) k 0) × ((i : ℕ) → 1 ≤ i → i ≤ n → getD (now sums) i 0 + heard (linksFrom (now us) (now vs) (now ws) first (length (now us) - first)) (bears n (now bits) (now plan)) m i ≡ heard (linksOf (now us) (now vs) (now ws)) (bears n (now bits) (now plan)) m i) ⌝ }
+    ensures { λ _. ⌜ (length (now (sums .exit)) ≡ 256) × ((i : ℕ) → 1 ≤ i → i ≤ n → getD (now (sums .exit)) i 0 ≡ heard (linksOf (now (us .entry)) (now (vs .entry)) (now (ws .entry))) (bears n (now (bits .entry)) (now (plan .entry))) m i) ⌝ }
+{
+    let mut k = first;
+    while k < us.len() {
+        if us[k] as usize != m {
+            return;
+        }
+        add_borne(sums, bits, plan, n, vs[k] as usize, ws[k] as u64);
+        k += 1;
+    }
+}
+
+// For each channel, the total weight of the links of meter m to neighbours that bear it; a channel's number is a byte.
 fn gather_heard(
     sums: &mut [u64],
     bits: &[u8],
@@ -38,18 +104,9 @@ fn gather_heard(
     requires { ⌜ Lent meters n (now us) (now vs) (now ws) × Assignment (meters * n) (now bits) × (length (now sums) ≡ 256) × ((i : ℕ) → getD (now sums) i 0 ≡ 0) ⌝ }
     ensures { λ _. ⌜ (length (now (sums .exit)) ≡ 256) × ((i : ℕ) → 1 ≤ i → i ≤ n → getD (now (sums .exit)) i 0 ≡ heard (linksOf (now (us .entry)) (now (vs .entry)) (now (ws .entry))) (bears n (now (bits .entry)) (now (plan .entry))) m i) ⌝ }
 {
-    let mut k: usize = 0;
-    while k < us.len() {
-        let u = us[k] as usize;
-        let v = vs[k] as usize;
-        let w = ws[k] as u64;
-        if u == m {
-            add_borne(sums, bits, plan, n, v, w);
-        } else if v == m {
-            add_borne(sums, bits, plan, n, u, w);
-        }
-        k += 1;
-    }
+    let first = links::first_link(us, m);
+    gather_lower(sums, bits, plan, us, vs, ws, meters, n, m, first);
+    gather_higher(sums, bits, plan, us, vs, ws, meters, n, m, first);
 }
 
 // The channel of 1..n with the least sum, ties to the lowest.

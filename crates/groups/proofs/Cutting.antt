@@ -1,42 +1,42 @@
--- Sums over the links: what a link adds to the cut weight of a plan, and to what an assignment cuts. Assumes nothing.
-use Prim.Native.Nat.{ℕ, _+_, _-_, _≤_, _<_}
-use mathlib.Core.Path.{_≡_, refl}
-use mathlib.Core.List.{List}
-use lib.ListN.{length, getD}
-use Rattle.lists.specs.Sums.{sumOf, differ}
-use Rattle.lists.proofs.Sums.{differ-yes, differ-no, differ-le}
-use Rattle.links.specs.Links.{Link, linkIn}
-use Rattle.links.specs.Survey.{Survey, Arrays}
-use Rattle.links.proofs.Walk.{Summed, summed-turn, summed-skip}
-use Rattle.onehot.specs.Choices.{bitAt}
-use Rattle.onehot.proofs.LinkSums.{planLink, plan-small, plan-yes, plan-no, bitsLink}
+-- Sums over the links: the cut weight of a plan, which is what is left of all weights, and what an assignment cuts. Assumes nothing.
+use Prim.Native.Nat.{ℕ, _+_, _-_, _*_, _≤_}
+use mathlib.Core.Path.{_≡_, refl, _∙_}
+use mathlib.Core.List.{List, [], _∷_}
+use lib.ListN.{length}
+use native.Mathlib.Omega.{arith}
+use native.Mathlib.Decide.{ℕ-discrete}
+use native.Mathlib.Nat.{mul-one, mul-zero}
+use Rattle.lists.specs.Sums.{sumOf, same, differ, nth}
+use Rattle.lists.proofs.Sums.{same-yes, same-no, differ-yes, differ-no, differ-le}
+use Rattle.links.specs.Links.{Link, linksOf, total}
+use Rattle.links.proofs.Total.{total-weights}
+use Rattle.onehot.specs.Choices.{bitAt, alikeWeight}
+use Rattle.onehot.proofs.LinkSums.{bitsLink}
 use Rattle.groups.specs.Plans.{cutWeight}
 use Rattle.groups.specs.Formula.{cuttingOf}
 
 -- ---- a plan's cut weight
 
-pub cut-sum : (ls : List Link) (p : List ℕ) → sumOf ls (planLink differ p) ≡ cutWeight ls p
-unfolding planLink cutWeight
-cut-sum ls p = refl
+-- a link is cut, or has both ends in one group
+apart-or-alike : (w a b : ℕ) → w * differ a b + w * same a b ≡ w
+apart-or-alike w a b =
+    elim (ℕ-discrete a b) [
+      | yes e ↦ rw (differ-no a b e, same-yes a b e, mul-zero, mul-one) (omega arith)
+      | no n ↦ rw (differ-yes a b n, same-no a b n, mul-zero, mul-one) (omega arith)
+    ]
 
-pub cut-small : (N : ℕ) (ls : List Link) (p : List ℕ) → Survey N ls → sumOf ls (planLink differ p) ≤ 16776960
-cut-small = plan-small differ differ-le
+cut-rest : (ls : List Link) (p : List ℕ) → cutWeight ls p + alikeWeight ls p ≡ total ls
+unfolding cutWeight alikeWeight total sumOf
+cut-rest [] p = refl
+cut-rest (l ∷ ls) p = omega (arith, cut-rest ls p, apart-or-alike (l .weight) (nth p (l .u)) (nth p (l .v)))
 
--- the link at k: its weight where its ends are in different groups, else nothing
-module _ (N : ℕ) (p us vs ws : List ℕ) (a : Arrays N us vs ws) (k : ℕ) (h : k < length us) where
-  pub cut-yes : (getD p (getD us k 0 - 1) 0 ≡ getD p (getD vs k 0 - 1) 0 → ⊥) → getD ws k 0 ≡ planLink differ p (linkIn us vs ws k)
-  cut-yes e = plan-yes differ N p us vs ws a k h (differ-yes _ _ e)
+-- all is the sum of weights that the code adds up
+module _ (us vs ws p : List ℕ) (even : length ws ≡ length us) (all alike : ℕ) (a : all ≡ sumOf ws (λ w. w)) (b : alike ≡ alikeWeight (linksOf us vs ws) p) where
+  pub cut-within : alike ≤ all
+  cut-within = omega (arith, a ∙ total-weights us vs ws even, b, cut-rest (linksOf us vs ws) p)
 
-  pub cut-no : getD p (getD us k 0 - 1) 0 ≡ getD p (getD vs k 0 - 1) 0 → 0 ≡ planLink differ p (linkIn us vs ws k)
-  cut-no e = plan-no differ N p us vs ws a k h (differ-no _ _ e)
-
-  -- a turn of the sum, which then is `next`
-  module _ (sum next : ℕ) (s : Summed us vs ws (planLink differ p) k sum) where
-    pub cut-turn : (getD p (getD us k 0 - 1) 0 ≡ getD p (getD vs k 0 - 1) 0 → ⊥) → next ≡ sum + getD ws k 0 → Summed us vs ws (planLink differ p) (k + 1) next
-    cut-turn e d = rw d (summed-turn us vs ws (planLink differ p) k sum s (getD ws k 0) h (cut-yes e))
-
-    pub cut-skip : getD p (getD us k 0 - 1) 0 ≡ getD p (getD vs k 0 - 1) 0 → next ≡ sum → Summed us vs ws (planLink differ p) (k + 1) next
-    cut-skip e d = rw d (summed-skip us vs ws (planLink differ p) k sum s h (cut-no e))
+  pub cut-left : all - alike ≡ cutWeight (linksOf us vs ws) p
+  cut-left = omega (arith, a ∙ total-weights us vs ws even, b, cut-rest (linksOf us vs ws) p)
 
 -- ---- what an assignment cuts
 

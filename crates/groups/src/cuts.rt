@@ -25,20 +25,10 @@ pub fn cutting(bits: &[u8], us: &[u8], vs: &[u8], ws: &[u16], meters: usize, m: 
     sum
 }
 
-// The cut weight of a plan: each link once whose ends are in different groups.
+// The cut weight of a plan, each link once: all weights but those of links with both ends in one group.
 pub fn cut_weight(plan: &[u8], us: &[u8], vs: &[u8], ws: &[u16], meters: usize) -> u64
     requires { ⌜ Arrays meters (now us) (now vs) (now ws) × (length (now plan) ≡ meters) ⌝ }
     ensures { λ r. ⌜ r ≡ cutWeight (linksOf (now (us .entry)) (now (vs .entry)) (now (ws .entry))) (now (plan .entry)) ⌝ }
 {
-    let mut sum: u64 = 0;
-    let mut k = 0;
-    while k < us.len() {
-        let u = us[k] as usize;
-        let v = vs[k] as usize;
-        if plan[u - 1] != plan[v - 1] {
-            sum += ws[k] as u64;
-        }
-        k += 1;
-    }
-    sum
+    links::total_weight(ws) - onehot::alike_weight(plan, us, vs, ws, meters)
 }

@@ -8,8 +8,7 @@ use native.Mathlib.Numerals.{add-one}
 use native.Mathlib.Nat.{mul-one, mul-le-mul, mul-le-mul-left, mul-le-mul-right, add-mul}
 use lib.Dec.{eqb}
 use lib.ListN.{length, getD}
-use lib.IntN.{ℤ, pos, negsuc, natAbs, _+ℤ_, _-ℤ_, _*ℤ_}
-use borrow.Author.Tests.{eq-eqb, ne-eqb}
+use lib.IntN.{ℤ, pos, negsuc, natAbs, _+ℤ_, _-ℤ_, _*ℤ_, *ℤ-zero}
 use Rattle.links.specs.Links.{linksOf}
 use Rattle.links.proofs.Walk.{arrays-few}
 use Rattle.qubo.specs.Formula.{Formula}
@@ -21,10 +20,11 @@ use Rattle.qubo.specs.declared.Run.{Run}
 use Rattle.qubo.proofs.Ints.{natAbs-*ℤ}
 use Rattle.qubo.proofs.Ring.{var, con, _⊕_, _⊖_, _⊗_, solve}
 use Rattle.qubo.proofs.Families.{sumEach, sumEach-eq, sumEach-split, coef-append, coef-bits, norm-append}
-use Rattle.qubo.proofs.RowAction.{add-none, add-append, add-length, added-abs}
-use Rattle.qubo.proofs.RowTerms.{product-split, product-entry, product-scale, product-empty, coef-scaled, times-norm}
+use Rattle.qubo.proofs.RowAction.{plus-none, add-none, add-append, add-length, added-abs}
+use Rattle.qubo.proofs.RowTerms.{product-split, product-entry, product-scale, product-empty, coef-scaled, add-times, times-norm}
+use Rattle.qubo.proofs.Runs.{run-lacks}
 use Rattle.qubo.proofs.RowShapes.{bits-times-norm}
-use Rattle.qubo.proofs.RowWalk.{Walked, walked-start, walked-room, walked-turn, walked-end}
+use Rattle.qubo.proofs.RowWalk.{Walked, walked-first, walked-room, walked-turn, walked-end}
 use Rattle.qubo.proofs.Turns.{less-abs}
 use Rattle.arcs.specs.Arcs.{Arc, arcs, arcBit, arcsEnd}
 use Rattle.arcs.specs.Lent.{Lent}
@@ -160,21 +160,22 @@ module _ (N D m : ℕ) (us vs ws : List ℕ) (k : ℕ) where
 -- ---- add_link: the link has an end at the meter, or none
 
 module _ (u v m : ℕ) (q : ℤ) (i : ℕ) (run : Run) where
-  pub part-first : m ≡ u → linkPart u v m q i run ≡ times q i (runSum run) ∷ []
+  pub part-yes : (eqb u m || eqb v m) ≡ true → linkPart u v m q i run ≡ times q i (runSum run) ∷ []
   unfolding linkPart
-  part-first e = rw (eq-eqb u m (sym e)) refl
+  part-yes e = rw e refl
 
-  pub part-second : m ≡ v → linkPart u v m q i run ≡ times q i (runSum run) ∷ []
+  pub part-no : (eqb u m || eqb v m) ≡ false → linkPart u v m q i run ≡ []
   unfolding linkPart
-  part-second e = rw (eq-eqb v m (sym e)) (go (eqb u m))
+  part-no e = rw e refl
+
+  -- a run below bit i: its pairs with bit i stand in the rows of its own bits
+  part-under : ((t : ℕ) → t < run .count → run .start + t * run .step < i) → (r : List ℤ) → addTerms (linkPart u v m q i run) i r ≡ r
+  unfolding linkPart
+  part-under h r = go (eqb u m || eqb v m)
     where
-      go : (t : Bool) → cond (t || true) (times q i (runSum run) ∷ []) [] ≡ times q i (runSum run) ∷ []
-      go true = refl
-      go false = refl
-
-  pub part-none : (u ≡ m → ⊥) → (v ≡ m → ⊥) → linkPart u v m q i run ≡ []
-  unfolding linkPart
-  part-none a b = rw (ne-eqb u m a, ne-eqb v m b) refl
+      go : (t : Bool) → addTerms (cond t (times q i (runSum run) ∷ []) []) i r ≡ r
+      go true = add-times q i (runSum run) r ∙ plus-none r (λ k. q *ℤ coef (runSum run) (i + k)) (λ k. ap (λ z. q *ℤ z) (run-lacks run (i + k) (λ t l e. omega (arith, h t l))) ∙ *ℤ-zero q)
+      go false = add-none i r
 
 -- ---- add_touching: link by link
 
@@ -222,6 +223,10 @@ parts-norm N D m us vs q i k (suc n) =
 pub partsLeft : ℕ → ℕ → ℕ → ℕ → List ℕ → List ℕ → ℤ → ℕ → Formula
 partsLeft N D m i us vs q k = parts N D m us vs q i k (length us - k)
 
+-- the bits of a link before n end at or before the first of link n
+link-within : (D k n : ℕ) → k < n → 2 * k * D + 2 * D ≤ 2 * n * D
+link-within D k n h = omega (arith, mul-le-mul-right D (let l : 2 * k + 2 ≤ 2 * n = omega arith in l), add-mul (2 * k) 2 D)
+
 -- the links before k are added to the row, with the factor q
 abbrev pub Touched : ℕ → ℕ → ℕ → ℕ → List ℕ → List ℕ → ℤ → List ℤ → List ℤ → ℕ → Type 0
 Touched N D m i us vs q row₀ row k = Walked (2 ^ 61) (partsLeft N D m i us vs (pos 0 -ℤ q)) (length us) i row₀ row k
@@ -241,19 +246,24 @@ module _ (N D m i : ℕ) (us vs ws : List ℕ) (lent : Lent N D us vs ws) (q : �
   unfolding partsLeft parts
   left-none = let e : length us - length us ≡ 0 = omega arith in ap (λ (t : ℕ). parts N D m us vs (pos 0 -ℤ q) i (length us) t) e
 
-  pub touched-start : Touched N D m i us vs q row₀ row₀ 0
+  all-room : Room (2 ^ 61) (left 0) row₀
   unfolding partsLeft
-  touched-start =
-      walked-start _ partAt left _ _ left-next left-none row₀ (record {
-        room = λ k. omega (
-          arith,
-          space .small k,
-          parts-norm N D m us vs (pos 0 -ℤ q) i 0 (length us - 0),
-          less-abs q,
-          mul-le-mul {n₂ = 256} {m₂ = 206158430208} (let h : length us - 0 ≤ 256 = omega (arith, arrays-few N us vs ws (lent .arrays)) in h)
-              (mul-le-mul {n₂ = 4294967296} {m₂ = 48} (let h : natAbs (pos 0 -ℤ q) ≤ 4294967296 = omega (arith, less-abs q, space .factor) in h) (let h : 2 * D ≤ 48 = omega (arith, lent .deep) in h)),
-        );
-      })
+  all-room = record {
+    room = λ k. omega (
+      arith,
+      space .small k,
+      parts-norm N D m us vs (pos 0 -ℤ q) i 0 (length us - 0),
+      less-abs q,
+      mul-le-mul {n₂ = 256} {m₂ = 206158430208} (let h : length us - 0 ≤ 256 = omega (arith, arrays-few N us vs ws (lent .arrays)) in h)
+          (mul-le-mul {n₂ = 4294967296} {m₂ = 48} (let h : natAbs (pos 0 -ℤ q) ≤ 4294967296 = omega (arith, less-abs q, space .factor) in h) (let h : 2 * D ≤ 48 = omega (arith, lent .deep) in h)),
+    );
+  }
+
+  -- the links before `from` add nothing, where their bits are below bit i
+  pub touched-start : (from : ℕ) → from ≤ length us → arcsEnd N D from ≤ i → Touched N D m i us vs q row₀ row₀ from
+  touched-start from h under =
+      walked-first _ partAt left _ _ left-next left-none row₀ from h
+      (λ k l r. part-under (getD us k 0) (getD vs k 0) m (pos 0 -ℤ q) i (linkRun N D k) (λ t g. omega (arith, link-within D k from l)) r) all-room
 
   module _ (row : List ℤ) (k : ℕ) (w : Touched N D m i us vs q row₀ row k) where
     pub touched-end : length us ≤ k → row ≡ addTerms (times q i (over (arcs (linksOf us vs ws)) (touching N D m)) ∷ []) i row₀
@@ -264,9 +274,12 @@ module _ (N D m i : ℕ) (us vs ws : List ℕ) (lent : Lent N D us vs ws) (q : �
 
     module _ (h : k < length us) where
       -- the next link's bits lie in the table, and there is room for its part
-      pub touched-ready : arcsEnd N D (length us) ≤ i + length row₀ → RunBelow (linkRun N D k) (i + length row) × Room (2 ^ 61) (partAt k) row
+      pub touched-ready : arcsEnd N D (length us) ≤ i + length row₀ → (N ≤ 48) × (D ≤ 24) × (k ≤ 256) × RunBelow (linkRun N D k) (i + length row) × Room (2 ^ 61) (partAt k) row
       touched-ready top =
-          let g : 2 * k * D + 2 * D ≤ 2 * length us * D = omega (arith, mul-le-mul-right D (let l : 2 * k + 2 ≤ 2 * length us = omega arith in l), add-mul (2 * k) 2 D) in (
+          let g = link-within D k (length us) h in (
+            lent .arrays .survey .meters-high,
+            lent .deep,
+            omega (arith, arrays-few N us vs ws (lent .arrays)),
             record { apart = omega arith; inside = λ t l. omega (arith, w .size); end = omega (arith, space .short) },
             walked-room _ partAt left _ _ left-next left-none row₀ row k h w,
           )

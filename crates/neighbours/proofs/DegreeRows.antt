@@ -25,6 +25,7 @@ use Rattle.arcs.specs.declared.places.Place.{Place}
 use Rattle.arcs.specs.declared.places.Place.the-variants.{OfDepth, OfArc, Behind}
 use Rattle.arcs.proofs.ArcLists.{ArcOf, lent-arc}
 use Rattle.arcs.proofs.BitsApart.{depth-below}
+use Rattle.arcs.proofs.EntryRows.{arc-link, arc-from}
 use Rattle.neighbours.specs.Formula.{degreeTerm, degreeTerms}
 use Rattle.neighbours.specs.Walks.{degreeEntries, TableRow}
 use Rattle.neighbours.proofs.CountValue.{degree-norm}
@@ -114,12 +115,16 @@ module _ (A N D d i : ℕ) (us vs ws : List ℕ) (lent : Lent N D us vs ws) (d1 
     ends : ArcOf N a
     ends = lent-arc N D us vs ws lent a (p .among)
 
-    pub parent-ready : (Lent N D us vs ws × (d ≤ 47) × (1 ≤ a .parent) × (a .parent ≤ N) × (natAbs (negsuc 0) ≤ 47) × TableRow (3 * 2 ^ 58) N D (length us) d A i r) × (form (a .parent) ≡ negsuc 0)
-    parent-ready = ((lent, d47, ends .parent-low, ends .parent-high, omega arith, roomy), at-parent)
+    -- its link is one of them, and the arc bits of those before it are below bit i
+    of-link : (a .number / 2 ≤ length us) × (arcsEnd N D (a .number / 2) ≤ i)
+    of-link = (arc-link N D us vs ws i a t p, arc-from N D us vs ws i a t p)
+
+    pub parent-ready : (Lent N D us vs ws × (d ≤ 47) × (1 ≤ a .parent) × (a .parent ≤ N) × (natAbs (negsuc 0) ≤ 47) × TableRow (3 * 2 ^ 58) N D (length us) d A i r) × (((a .number / 2 ≤ length us) × (arcsEnd N D (a .number / 2) ≤ i)) × (form (a .parent) ≡ negsuc 0))
+    parent-ready = ((lent, d47, ends .parent-low, ends .parent-high, omega arith, roomy), (of-link, at-parent))
 
     module _ (s : List ℤ) (e : s ≡ addTerms (terms (a .parent)) i r) where
-      pub child-ready : (Lent N D us vs ws × (d ≤ 47) × (1 ≤ a .child) × (a .child ≤ N) × (natAbs (negsuc 0) ≤ 47) × TableRow (3 * 2 ^ 58) N D (length us) d A i s) × (form (a .child) ≡ negsuc 0)
-      child-ready = ((lent, d47, ends .child-low, ends .child-high, omega arith, rw e later), at-child)
+      pub child-ready : (Lent N D us vs ws × (d ≤ 47) × (1 ≤ a .child) × (a .child ≤ N) × (natAbs (negsuc 0) ≤ 47) × TableRow (3 * 2 ^ 58) N D (length us) d A i s) × (((a .number / 2 ≤ length us) × (arcsEnd N D (a .number / 2) ≤ i)) × (form (a .child) ≡ negsuc 0))
+      child-ready = ((lent, d47, ends .child-low, ends .child-high, omega arith, rw e later), (of-link, at-child))
         where
           later : TableRow (3 * 2 ^ 58) N D (length us) d A i (addTerms (terms (a .parent)) i r)
           later = record {
@@ -163,10 +168,10 @@ module _ (A N D d i : ℕ) (us vs ws : List ℕ) (lent : Lent N D us vs ws) (d1 
     pub count-number : (i - b) % d + 1 ≤ 47
     count-number = omega (arith, mod-lt (i - b) d1)
 
-    pub count-ready : (Lent N D us vs ws × (d ≤ 47) × (1 ≤ (i - b) / d + 1) × ((i - b) / d + 1 ≤ N) × (natAbs (pos ((i - b) % d + 1)) ≤ 47) × TableRow (3 * 2 ^ 58) N D (length us) d A i r) × (form ((i - b) / d + 1) ≡ pos ((i - b) % d + 1))
+    pub count-ready : (Lent N D us vs ws × (d ≤ 47) × (1 ≤ (i - b) / d + 1) × ((i - b) / d + 1 ≤ N) × (natAbs (pos ((i - b) % d + 1)) ≤ 47) × TableRow (3 * 2 ^ 58) N D (length us) d A i r) × (((length us ≤ length us) × (arcsEnd N D (length us) ≤ i)) × (form ((i - b) / d + 1) ≡ pos ((i - b) % d + 1)))
     count-ready = (
       (lent, d47, omega arith, rw (← off-is) (omega (arith, inside)), count-number, roomy),
-      rw (← off-is) (form-own N D (length us) d links (length-linksOf us vs ws) (off / d + 1) i after d1 refl),
+      ((omega arith, after), rw (← off-is) (form-own N D (length us) d links (length-linksOf us vs ws) (off / d + 1) i after d1 refl)),
     )
 
     pub count-done : (z : List ℤ) → z ≡ addTerms (terms ((i - b) / d + 1)) i r → z ≡ addTerms (degreeTerms A N D (length us) d (arcs links)) i r

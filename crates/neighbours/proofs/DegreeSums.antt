@@ -19,7 +19,7 @@ use Rattle.arcs.specs.Arcs.{Arc, arcs, arcsEnd, arcAt}
 use Rattle.arcs.specs.Lent.{Lent}
 use Rattle.arcs.proofs.ArcLists.{arcUp, arcBack}
 use Rattle.arcs.proofs.ArcSums.{ArcsSummed, summed-start, summed-turn, summed-end}
-use Rattle.arcs.proofs.Slices.{slice, slice-sum, slice-bits, link-within}
+use Rattle.arcs.proofs.Slices.{slice, slice-sum, slice-short, link-within}
 use Rattle.arcs.proofs.Summing.{link-halves}
 use Rattle.neighbours.specs.Formula.{countAt, touchesOf, degreeGaps}
 use Rattle.neighbours.specs.Walks.{linkSet}
@@ -50,8 +50,8 @@ module _ (N D k : ℕ) (x : List ℕ) (s e : ℕ) (start : s ≡ N * suc D + 2 *
   pub link-end : e ≤ length x
   link-end = omega (arith, link-within N D (k + 1) k (omega arith))
 
-  pub link-bits : Bits x → Bits (slice x s e)
-  link-bits = slice-bits x s e (2 * D) end link-end
+  pub link-short : D ≤ 24 → Bits x → Bits (slice x s e) × (length (slice x s e) < 256)
+  link-short h = slice-short x s e (2 * D) end link-end (omega arith)
 
   pub link-set-is : (r : ℕ) → r ≡ sumTo (length (slice x s e)) (nth (slice x s e)) → r ≡ linkSet N D x k
   unfolding linkSet

@@ -114,11 +114,14 @@ module _ (A N D d i m : ℕ) (us vs ws : List ℕ) (lent : Lent N D us vs ws) (d
       second-small : (k : ℕ) → natAbs (getD t k (pos 0)) ≤ 2 ^ 60
       second-small k = rw f (omega (arith, first-small k, added-abs (times q i (numbered d first) ∷ []) i s k, numbered-small q i d d first d47 (omega arith), q-low))
 
-      pub touching-ready : Lent N D us vs ws × (arcsEnd N D (length us) ≤ i + length t) × Roomy q i t
-      touching-ready = (
+      pub touching-ready : (from : ℕ) → from ≤ length us → arcsEnd N D from ≤ i → Lent N D us vs ws × (arcsEnd N D (length us) ≤ i + length t) × Roomy q i t × (from ≤ length us) × (arcsEnd N D from ≤ i) × (m ≤ 48)
+      touching-ready from inside under = (
         lent,
         omega (arith, second-length, row .whole),
         record { small = second-small; factor = q-low; short = omega (arith, second-length, short) },
+        inside,
+        under,
+        omega (arith, mN, lent .arrays .survey .meters-high),
       )
 
       pub degree-done : coef (degreeEntries N D (length us) d (arcs (linksOf us vs ws)) m) i ≡ c → (z : List ℤ) → z ≡ addTerms (times q i (over (arcs (linksOf us vs ws)) (touching N D m)) ∷ []) i t

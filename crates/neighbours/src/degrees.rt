@@ -3,7 +3,9 @@ use crate::counts;
 use arcs::places::Place;
 ghost use Prim.Native.Nat.{ℕ, _+_, _*_, _^_, _≤_, _<_};
 ghost use mathlib.Core.Path.{_≡_};
+ghost use mathlib.Core.Bool.{_||_};
 ghost use mathlib.Core.List.{[], _∷_};
+ghost use lib.Dec.{eqb};
 ghost use lib.ListN.{length, getD, set};
 ghost use lib.IntN.{pos, natAbs, _-ℤ_, _*ℤ_};
 ghost use Rattle.lists.specs.Sums.{sumTo, gap, nth};
@@ -53,19 +55,38 @@ fn link_run(meters: usize, deepest: usize, k: usize) -> qubo::Run
     }
 }
 
-// Adds q times bit i times the bits of a link's two arcs to row i, where the link has an end at the meter.
-fn add_link(row: &mut [i64], i: usize, run: qubo::Run, u: usize, v: usize, meter: usize, q: i64)
-    requires { ⌜ RunBelow run (i + length (now row)) × Room (2 ^ 61) (linkPart u v meter q i run) (now row) ⌝ }
-    ensures { λ _. ⌜ now (row .exit) ≡ addTerms (linkPart u v meter q i run) i (now (row .entry)) ⌝ }
+// Whether one of a link's two ends is the meter.
+fn has_end(u: u8, v: u8, meter: u8) -> bool
+    ensures { λ r. ⌜ r ≡ (eqb u meter || eqb v meter) ⌝ }
 {
     if u == meter {
-        qubo::add_run(row, i, run, q);
-    } else if v == meter {
+        return true;
+    }
+    v == meter
+}
+
+// Adds q times bit i times the bits of link k's two arcs to row i, where the link has an end at the meter. Few links have: the ends are tested first, and where the bits stand is computed for these links alone.
+fn add_link(
+    row: &mut [i64],
+    i: usize,
+    u: u8,
+    v: u8,
+    meters: usize,
+    deepest: usize,
+    k: usize,
+    meter: u8,
+    q: i64,
+)
+    requires { ⌜ (meters ≤ 48) × (deepest ≤ 24) × (k ≤ 256) × RunBelow (linkRun meters deepest k) (i + length (now row)) × Room (2 ^ 61) (linkPart u v meter q i (linkRun meters deepest k)) (now row) ⌝ }
+    ensures { λ _. ⌜ now (row .exit) ≡ addTerms (linkPart u v meter q i (linkRun meters deepest k)) i (now (row .entry)) ⌝ }
+{
+    if has_end(u, v, meter) {
+        let run = link_run(meters, deepest, k);
         qubo::add_run(row, i, run, q);
     }
 }
 
-// Adds q times bit i times what the arc bits in or out of a meter take off its form to row i, in one walk of the links.
+// Adds q times bit i times what the arc bits in or out of a meter take off its form to row i, in one walk of the links from `from` on: the arc bits of those before it are below bit i, so that their pairs with it stand in other rows.
 fn add_touching(
     row: &mut [i64],
     i: usize,
@@ -74,17 +95,18 @@ fn add_touching(
     ws: &[u16],
     meters: usize,
     deepest: usize,
+    from: usize,
     meter: usize,
     q: i64,
 )
-    requires { ⌜ Lent meters deepest (now us) (now vs) (now ws) × (arcsEnd meters deepest (length (now us)) ≤ i + length (now row)) × Roomy q i (now row) ⌝ }
+    requires { ⌜ Lent meters deepest (now us) (now vs) (now ws) × (arcsEnd meters deepest (length (now us)) ≤ i + length (now row)) × Roomy q i (now row) × (from ≤ length (now us)) × (arcsEnd meters deepest from ≤ i) × (meter ≤ 48) ⌝ }
     ensures { λ _. ⌜ now (row .exit) ≡ addTerms (times q i (over (arcs (linksOf (now (us .entry)) (now (vs .entry)) (now (ws .entry)))) (touching meters deepest meter)) ∷ []) i (now (row .entry)) ⌝ }
 {
     let less = 0 - q;
-    let mut k: usize = 0;
+    let end = meter as u8;
+    let mut k = from;
     while k < us.len() {
-        let run = link_run(meters, deepest, k);
-        add_link(row, i, run, us[k] as usize, vs[k] as usize, meter, less);
+        add_link(row, i, us[k], vs[k], meters, deepest, k, end, less);
         k += 1;
     }
 }
@@ -108,7 +130,7 @@ fn own_of(penalty: u64, c: i64) -> i64
     0 - square
 }
 
-// Adds A times the square of a meter's form to row i, where bit i has the coefficient c in the form: j for the meter's bit of j neighbours, -1 for an arc in or out of it.
+// Adds A times the square of a meter's form to row i, where bit i has the coefficient c in the form: j for the meter's bit of j neighbours, -1 for an arc in or out of it. The arc bits of links before `from` are below bit i.
 fn add_degree(
     row: &mut [i64],
     i: usize,
@@ -119,10 +141,12 @@ fn add_degree(
     deepest: usize,
     d: usize,
     penalty: u64,
+    from: usize,
     meter: usize,
     c: i64,
 )
     requires { ⌜ Lent meters deepest (now us) (now vs) (now ws) × (d ≤ 47) × (1 ≤ meter) × (meter ≤ meters) × (natAbs c ≤ 47) × TableRow (3 * 2 ^ 58) meters deepest (length (now us)) d penalty i (now row) ⌝ }
+    requires { ⌜ (from ≤ length (now us)) × (arcsEnd meters deepest from ≤ i) ⌝ }
     requires { ⌜ coef (degreeEntries meters deepest (length (now us)) d (arcs (linksOf (now us) (now vs) (now ws))) meter) i ≡ c ⌝ }
     ensures { λ _. ⌜ now (row .exit) ≡ addTerms (degreeTerm penalty meters deepest (length (now (us .entry))) d (arcs (linksOf (now (us .entry)) (now (vs .entry)) (now (ws .entry)))) meter ∷ []) i (now (row .entry)) ⌝ }
 {
@@ -131,10 +155,10 @@ fn add_degree(
     let start = counts::first_count(meters, deepest, us.len()) + (meter - 1) * d;
     qubo::add_single(row, i, i, own);
     add_numbered(row, i, start, d, twice);
-    add_touching(row, i, us, vs, ws, meters, deepest, meter, twice);
+    add_touching(row, i, us, vs, ws, meters, deepest, from, meter, twice);
 }
 
-// Adds A times the sum over meters of those squares to row i. A bit of a depth is in none of them, that of an arc in those of its two ends, a neighbour-count bit in that of its meter.
+// Adds A times the sum over meters of those squares to row i. A bit of a depth is in none of them, that of an arc in those of its two ends, a neighbour-count bit in that of its meter. Link k's arcs are number 2 k and 2 k + 1: the arc bits of links before an arc's are below its bit, and all are below a neighbour-count bit.
 pub fn add_degrees(
     row: &mut [i64],
     i: usize,
@@ -153,20 +177,21 @@ pub fn add_degrees(
     match place {
         Place::OfDepth { meter: _, depth: _ } => {}
         Place::OfArc {
-            number: _,
-            parent,
-            child,
-            weight: _,
-            depth: _,
+            number,
+            parent: u,
+            child: v,
+            ..
         } => {
-            add_degree(row, i, us, vs, ws, meters, deepest, d, penalty, parent, -1);
-            add_degree(row, i, us, vs, ws, meters, deepest, d, penalty, child, -1);
+            let k = number / 2;
+            add_degree(row, i, us, vs, ws, meters, deepest, d, penalty, k, u, -1);
+            add_degree(row, i, us, vs, ws, meters, deepest, d, penalty, k, v, -1);
         }
         Place::Behind => {
-            let off = i - counts::first_count(meters, deepest, us.len());
-            let meter = off / d + 1;
+            let n = us.len();
+            let off = i - counts::first_count(meters, deepest, n);
+            let m = off / d + 1;
             let j = (off % d + 1) as i64;
-            add_degree(row, i, us, vs, ws, meters, deepest, d, penalty, meter, j);
+            add_degree(row, i, us, vs, ws, meters, deepest, d, penalty, n, m, j);
         }
     }
 }

@@ -1,44 +1,48 @@
--- Sums over the links that weigh each link by f of its two ends, which is 0 or 1: over a plan's choices, and over the bits of each choice. Channels take them where both ends are alike, groups where they differ. Assumes nothing.
+-- Sums over the links: the weight of those with the same choice at both ends, and over the bits of each choice the weight times f of the two ends' bits, which is 0 or 1. Channels take f for both set, groups for just one. Assumes nothing.
 use Prim.Native.Nat.{ℕ, _+_, _-_, _*_, _≤_, _<_}
-use mathlib.Core.Path.{_≡_, sym, ap, ap₂, _∙_}
+use mathlib.Core.Path.{_≡_, refl, sym, ap, ap₂, _∙_}
 use mathlib.Core.List.{List}
 use lib.ListN.{length, getD}
 use native.Mathlib.Omega.{arith}
 use native.Mathlib.Nat.{mul-one, mul-zero}
-use Rattle.lists.specs.Sums.{sumTo, sumOf, nth}
-use Rattle.lists.proofs.Sums.{sumTo-times, sumTo-bound, times-bit, nth-index}
+use Rattle.lists.specs.Sums.{sumTo, sumOf, same, nth}
+use Rattle.lists.proofs.Sums.{sumTo-times, sumTo-bound, times-bit, same-yes, same-no, same-le, nth-index}
 use Rattle.links.specs.Links.{Link, linkIn, linksOf}
 use Rattle.links.specs.Survey.{Survey, Arrays}
-use Rattle.links.proofs.Walk.{link-at, Summed, summed-room, sum-bounded}
-use Rattle.onehot.specs.Choices.{bitAt}
+use Rattle.links.proofs.Walk.{link-at, Summed, summed-turn, summed-skip, summed-room, sum-bounded}
+use Rattle.onehot.specs.Choices.{bitAt, alikeWeight}
 use Rattle.onehot.specs.Lent.{Lent}
 
--- ---- over a plan
+-- ---- over a plan, where both ends are alike
 
 -- what a link adds
-unfoldable pub planLink : (ℕ → ℕ → ℕ) → List ℕ → Link → ℕ
-planLink f p l = l .weight * f (nth p (l .u)) (nth p (l .v))
+unfoldable pub alikeLink : List ℕ → Link → ℕ
+alikeLink p l = l .weight * same (nth p (l .u)) (nth p (l .v))
 
-module _ (f : ℕ → ℕ → ℕ) where
-  -- at most 256 links of at most 65,535
-  pub plan-small : ((a b : ℕ) → f a b ≤ 1) → (N : ℕ) (ls : List Link) (p : List ℕ) → Survey N ls → sumOf ls (planLink f p) ≤ 16776960
-  unfolding planLink
-  plan-small one N ls p s =
-      omega (arith, s .few, sum-bounded N ls (s .each) (planLink f p) 65535 (λ l o. omega (arith, o .weight-high, times-bit (l .weight) (f (nth p (l .u)) (nth p (l .v))) (one _ _))))
+pub alike-sum : (ls : List Link) (p : List ℕ) → sumOf ls (alikeLink p) ≡ alikeWeight ls p
+unfolding alikeLink alikeWeight
+alike-sum ls p = refl
 
-  -- the link at k
-  module _ (N : ℕ) (p us vs ws : List ℕ) (a : Arrays N us vs ws) (k : ℕ) (h : k < length us) where
-    at-k : planLink f p (linkIn us vs ws k) ≡ getD ws k 0 * f (getD p (getD us k 0 - 1) 0) (getD p (getD vs k 0 - 1) 0)
-    unfolding planLink linkIn
-    at-k =
-        ap₂ (λ x y. getD ws k 0 * f x y) (nth-index p (getD us k 0) (link-at N us vs ws a k h .0)) (nth-index p (getD vs k 0) (omega (arith, link-at N us vs ws a k h)))
+-- at most 256 links of at most 65,535
+pub alike-small : (N : ℕ) (ls : List Link) (p : List ℕ) → Survey N ls → sumOf ls (alikeLink p) ≤ 16776960
+unfolding alikeLink
+alike-small N ls p s =
+    omega (arith, s .few, sum-bounded N ls (s .each) (alikeLink p) 65535 (λ l o. omega (arith, o .weight-high, times-bit (l .weight) (same (nth p (l .u)) (nth p (l .v))) (same-le _ _))))
 
-    -- counts with its weight, or not at all
-    pub plan-yes : f (getD p (getD us k 0 - 1) 0) (getD p (getD vs k 0 - 1) 0) ≡ 1 → getD ws k 0 ≡ planLink f p (linkIn us vs ws k)
-    plan-yes e = sym (at-k ∙ ap (λ t. getD ws k 0 * t) e ∙ mul-one (getD ws k 0))
+-- the link at k counts with its weight, or not at all
+module _ (N : ℕ) (p us vs ws : List ℕ) (a : Arrays N us vs ws) (k : ℕ) (h : k < length us) where
+  at-k : alikeLink p (linkIn us vs ws k) ≡ getD ws k 0 * same (getD p (getD us k 0 - 1) 0) (getD p (getD vs k 0 - 1) 0)
+  unfolding alikeLink linkIn
+  at-k =
+      ap₂ (λ x y. getD ws k 0 * same x y) (nth-index p (getD us k 0) (link-at N us vs ws a k h .0)) (nth-index p (getD vs k 0) (omega (arith, link-at N us vs ws a k h)))
 
-    pub plan-no : f (getD p (getD us k 0 - 1) 0) (getD p (getD vs k 0 - 1) 0) ≡ 0 → 0 ≡ planLink f p (linkIn us vs ws k)
-    plan-no e = sym (at-k ∙ ap (λ t. getD ws k 0 * t) e ∙ mul-zero (getD ws k 0))
+  -- a turn of the sum, which then is `next`
+  module _ (sum next : ℕ) (s : Summed us vs ws (alikeLink p) k sum) where
+    pub alike-turn : getD p (getD us k 0 - 1) 0 ≡ getD p (getD vs k 0 - 1) 0 → next ≡ sum + getD ws k 0 → Summed us vs ws (alikeLink p) (k + 1) next
+    alike-turn e d = rw d (summed-turn us vs ws (alikeLink p) k sum s (getD ws k 0) h (sym (at-k ∙ ap (λ t. getD ws k 0 * t) (same-yes _ _ e) ∙ mul-one (getD ws k 0))))
+
+    pub alike-skip : (getD p (getD us k 0 - 1) 0 ≡ getD p (getD vs k 0 - 1) 0 → ⊥) → next ≡ sum → Summed us vs ws (alikeLink p) (k + 1) next
+    alike-skip e d = rw d (summed-skip us vs ws (alikeLink p) k sum s h (sym (at-k ∙ ap (λ t. getD ws k 0 * t) (same-no _ _ e) ∙ mul-zero (getD ws k 0))))
 
 -- ---- over bits
 

@@ -50,6 +50,10 @@ module _ (n N m : ℕ) (x part : List ℕ) (is : part ≡ take n (drop ((m - 1) 
   pub part-small : Bits x → Bits part
   part-small h = rw is (small-take n (drop ((m - 1) * n) x) (λ k. rw getD-drop (h ((m - 1) * n + k))))
 
+  -- as `set_count` asks for it
+  pub part-short : n < 256 → Bits x → Bits part × (length part < 256)
+  part-short h b = (part-small b, rw part-length h)
+
   pub part-at : (i : ℕ) → 1 ≤ i → i ≤ n → nth part i ≡ bitAt n x m i
   part-at zero a b = absurd (omega arith)
   part-at (suc j) a b = rw (nth-suc part j, is, getD-take n (drop ((m - 1) * n) x) j 0 b, getD-drop, bit-index n x m (suc j) m1 a, one-less j) refl
@@ -81,6 +85,9 @@ part-is n v x = rw (a, b) refl
 module _ (n N v : ℕ) (x : List ℕ) (below : v < N) (fits : N * n ≤ length x) where
   pub cut-small : Bits x → Bits (partOf n v x)
   cut-small = part-small n N (v + 1) x (partOf n v x) (part-is n v x) (omega arith) (omega arith) fits
+
+  pub cut-short : n < 256 → Bits x → Bits (partOf n v x) × (length (partOf n v x) < 256)
+  cut-short = part-short n N (v + 1) x (partOf n v x) (part-is n v x) (omega arith) (omega arith) fits
 
   pub cut-count : sumTo (length (partOf n v x)) (nth (partOf n v x)) ≡ setAt n (bitAt n x) (v + 1)
   cut-count = part-count n N (v + 1) x (partOf n v x) (part-is n v x) (omega arith) (omega arith) fits

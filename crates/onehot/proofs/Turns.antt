@@ -66,7 +66,7 @@ module _ (n m : ℕ) (x : List ℕ) (low : 1 ≤ m) (fits : m * n ≤ length x) 
   cut-at = part-at n m m x (partOf n (m - 1) x) cut-is low (le-refl m) fits
 
 module _ (n u v : ℕ) (x : List ℕ) (u1 : 1 ≤ u) (v1 : 1 ≤ v) (fits-u : u * n ≤ length x) (fits-v : v * n ≤ length x) where
-  pub cuts-even : n ≤ 16 → (length (partOf n (v - 1) x) ≡ length (partOf n (u - 1) x)) × (length (partOf n (u - 1) x) ≤ 2 ^ 32)
+  pub cuts-even : n ≤ 16 → (length (partOf n (v - 1) x) ≡ length (partOf n (u - 1) x)) × (length (partOf n (u - 1) x) ≤ 16)
   cuts-even h = let p : length (partOf n (u - 1) x) ≡ n = cut-length n u x u1 fits-u in (cut-length n v x v1 fits-v ∙ sym p, omega arith)
 
   pub cuts-small : Bits x → Bits (partOf n (u - 1) x) × Bits (partOf n (v - 1) x)

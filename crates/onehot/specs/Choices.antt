@@ -6,7 +6,8 @@ use lib.ListN.{length, getD}
 use lib.IntN.{pos}
 use lib.Dec.{eqb, leb}
 use Rattle.lists.specs.Tests.{all}
-use Rattle.lists.specs.Sums.{sumTo, lowest, same}
+use Rattle.lists.specs.Sums.{sumTo, sumOf, lowest, same, nth}
+use Rattle.links.specs.Links.{Link}
 use Rattle.qubo.specs.Formula.{Formula}
 use Rattle.qubo.specs.Terms.{each, over, oneHot}
 
@@ -52,3 +53,7 @@ code n p = over p (λ c. each n (same c))
 -- the choices that bits would code: the lowest one set at each of N meters
 unfoldable pub candidate : ℕ → ℕ → List ℕ → List ℕ
 candidate N n x = each N (λ v. lowest n (bitAt n x v))
+
+-- the weight of all links with the same choice at both ends
+unfoldable pub alikeWeight : List Link → List ℕ → ℕ
+alikeWeight ls p = sumOf ls (λ l. l .weight * same (nth p (l .u)) (nth p (l .v)))

@@ -3,6 +3,7 @@ use Prim.Native.Nat.{ℕ, _≤_}
 use mathlib.Core.List.{List}
 use Rattle.links.specs.Survey.{Arrays}
 
+-- the arrays of an accepted site, and n from 1 to 16
 pub record Lent (N n : ℕ) (us vs ws : List ℕ) : Type 0 where
   pub arrays : Arrays N us vs ws
   pub low : 1 ≤ n

@@ -5,22 +5,24 @@ ghost use mathlib.Core.Bool.{true};
 ghost use mathlib.Core.Path.{_≡_};
 ghost use lib.ListN.{length, getD};
 ghost use Rattle.lists.specs.Sums.{sumTo, lowest, same, differ, gap, nth};
+ghost use Rattle.links.specs.Links.{linksOf};
+ghost use Rattle.links.specs.Survey.{Arrays};
 ghost use Rattle.qubo.specs.Formula.{Bits, Assignment};
 ghost use Rattle.qubo.specs.Rows.{addTerms, Room};
-ghost use Rattle.onehot.specs.Choices.{bitAt, oneHots, missSquared, misses, areChoices, code, candidate};
+ghost use Rattle.onehot.specs.Choices.{bitAt, oneHots, missSquared, misses, areChoices, code, candidate, alikeWeight};
 
-// How many bits of a part are set.
+// How many bits of a part are set. It is so short that a byte holds the sum, and sums of bytes are quick.
 pub fn set_count(part: &[u8]) -> usize
-    requires { ⌜ Bits (now part) ⌝ }
+    requires { ⌜ Bits (now part) × (length (now part) < 256) ⌝ }
     ensures { λ r. ⌜ r ≡ sumTo (length (now (part .entry))) (nth (now (part .entry))) ⌝ }
 {
-    let mut sum: usize = 0;
+    let mut sum: u8 = 0;
     let mut i = 0;
     while i < part.len() {
-        sum += part[i] as usize;
+        sum += part[i];
         i += 1;
     }
-    sum
+    sum as usize
 }
 
 // The lowest choice that is set in a part, 0 where none is.
@@ -37,18 +39,18 @@ pub fn lowest_set(part: &[u8]) -> usize
     0
 }
 
-// On how many choices two parts both have their bit set.
+// On how many choices two parts both have their bit set. There are at most 16, so a byte holds the sum, and sums of bytes are quick.
 fn overlap(part: &[u8], other: &[u8]) -> u64
-    requires { ⌜ (length (now other) ≡ length (now part)) × (length (now part) ≤ 2 ^ 32) × Bits (now part) × Bits (now other) ⌝ }
+    requires { ⌜ (length (now other) ≡ length (now part)) × (length (now part) ≤ 16) × Bits (now part) × Bits (now other) ⌝ }
     ensures { λ r. ⌜ r ≡ sumTo (length (now (part .entry))) (λ i. nth (now (part .entry)) i * nth (now (other .entry)) i) ⌝ }
 {
-    let mut both: u64 = 0;
+    let mut both: u8 = 0;
     let mut i = 0;
     while i < part.len() {
-        both += (part[i] as u64) * (other[i] as u64);
+        both += part[i] * other[i];
         i += 1;
     }
-    both
+    both as u64
 }
 
 // On how many choices the meters u and v both have their bit set.
@@ -63,10 +65,10 @@ pub fn shared(bits: &[u8], u: u8, v: u8, n: usize) -> u64
 
 // On how many choices exactly one of two parts has its bit set.
 fn apart(part: &[u8], other: &[u8]) -> u64
-    requires { ⌜ (length (now other) ≡ length (now part)) × (length (now part) ≤ 2 ^ 32) ⌝ }
+    requires { ⌜ (length (now other) ≡ length (now part)) × (length (now part) ≤ 16) ⌝ }
     ensures { λ r. ⌜ r ≡ sumTo (length (now (part .entry))) (λ i. differ (nth (now (part .entry)) i) (nth (now (other .entry)) i)) ⌝ }
 {
-    let mut count: u64 = 0;
+    let mut count: u8 = 0;
     let mut i = 0;
     while i < part.len() {
         if part[i] != other[i] {
@@ -74,7 +76,7 @@ fn apart(part: &[u8], other: &[u8]) -> u64
         }
         i += 1;
     }
-    count
+    count as u64
 }
 
 // On how many choices exactly one of the meters u and v has its bit set.
@@ -201,6 +203,24 @@ pub fn encode(plan: &[u8], meters: usize, n: usize, bits: &mut [u8])
         }
         v += 1;
     }
+}
+
+// The weight of all links with the same choice at both ends: what clashes in a plan of channels, and what a plan of groups does not cut.
+pub fn alike_weight(plan: &[u8], us: &[u8], vs: &[u8], ws: &[u16], meters: usize) -> u64
+    requires { ⌜ Arrays meters (now us) (now vs) (now ws) × (length (now plan) ≡ meters) ⌝ }
+    ensures { λ r. ⌜ r ≡ alikeWeight (linksOf (now (us .entry)) (now (vs .entry)) (now (ws .entry))) (now (plan .entry)) ⌝ }
+{
+    let mut sum: u64 = 0;
+    let mut k = 0;
+    while k < us.len() {
+        let u = us[k] as usize;
+        let v = vs[k] as usize;
+        if plan[u - 1] == plan[v - 1] {
+            sum += ws[k] as u64;
+        }
+        k += 1;
+    }
+    sum
 }
 
 // How many meters have each choice: those of choice g are counted in place g of 256, since a choice is a byte.

@@ -2,7 +2,7 @@
 use Prim.Native.Nat.{ℕ, _^_, _<_}
 use mathlib.Core.Bool.{true}
 use mathlib.Core.Logic.{_↔_}
-use mathlib.Core.Path.{_≡_, refl, sym, ap, _∙_}
+use mathlib.Core.Path.{_≡_, refl}
 use mathlib.Core.List.{List}
 use lib.ListN.{length}
 use lib.Dec.{eqb}
@@ -19,20 +19,17 @@ use Rattle.spanning.specs.Parents.{deepest, isRooted}
 use Rattle.channels.specs.Plans as channels-plans
 use Rattle.channels.proofs.AnyPenalty as channels-any
 use Rattle.channels.proofs.Demands as channels
-use Rattle.groups.specs.Plans as groups-plans
-use Rattle.groups.specs.Decoding as groups-decoding
 use Rattle.groups.proofs.Bracket.{plan-split}
 use Rattle.groups.proofs.AnyPenalty as groups-any
 use Rattle.groups.proofs.Demands as groups
 use Rattle.tree.specs.Plans as tree-plans
-use Rattle.tree.specs.Decoding as tree-decoding
 use Rattle.tree.proofs.CodeBits as tree-codes
 use Rattle.tree.proofs.CodeSums as tree-sums
 use Rattle.tree.proofs.AnyPenalty as tree-any
 use Rattle.tree.proofs.Demands as tree
 use Rattle.plans.specs.declared.Kind.{Kind}
 use Rattle.plans.specs.declared.Kind.the-variants.{Channels, Groups, Tree}
-use Rattle.plans.specs.Kinds.{limitsHold, bitCount, penalty, formulaBy, formula, isPlan, weight, codeOf, decodes, decoded, repaired}
+use Rattle.plans.specs.Kinds.{limitsHold, bitCount, penalty, formulaBy, formula, isPlan, codeOf, decodes, decoded, repaired}
 
 module _ (N : ℕ) (ls : List Link) (s : Survey N ls) where
   -- "The sum of the absolute values of a table's numbers is below 2^54"
@@ -63,21 +60,6 @@ module _ (N : ℕ) (ls : List Link) (s : Survey N ls) where
   code-decodes (Channels n) w q e = let h = channels.plan-decodes N n ls s w q e in (refl, h .0, h .2)
   code-decodes (Groups m) w q e = (groups-any.codes-exactly N m _ .1 (record { plan = q; ok = e; codes = refl }), groups-any.candidate-plan N m q e, refl)
   code-decodes (Tree d) w q e = (tree-any.codes-exactly N d ls s _ .1 (record { plan = q; ok = e; codes = refl }), tree-sums.candidate-code N d ls s q e, refl)
-
-  -- an assignment that codes a plan decodes to it, and so to a plan whose code it is
-  pub codes-decodes : (k : Kind) → limitsHold N k ≡ true → (x : List ℕ) → CodesPlan (isPlan N ls k) (codeOf N ls k) x
-      → (decodes N ls k x ≡ true) × (isPlan N ls k (decoded N ls k x) ≡ true) × (codeOf N ls k (decoded N ls k x) ≡ x) × (repaired N k x ≡ 0)
-  codes-decodes k w x c =
-      let h = code-decodes k w (c .plan) (c .ok) in
-      let q : decoded N ls k x ≡ c .plan = ap (decoded N ls k) (c .codes) ∙ h .1 in
-      (ap (decodes N ls k) (c .codes) ∙ h .0, ap (isPlan N ls k) q ∙ c .ok, ap (codeOf N ls k) q ∙ sym (c .codes), ap (repaired N k) (c .codes) ∙ h .2)
-
-  -- what decodes gives a plan
-  pub decoded-plan : (k : Kind) → limitsHold N k ≡ true → (x : List ℕ) → Assignment (bitCount N (length ls) k) x → decodes N ls k x ≡ true → isPlan N ls k (decoded N ls k x) ≡ true
-  unfolding limitsHold bitCount isPlan decodes decoded groups-decoding.codesPlan tree-decoding.codesPlan
-  decoded-plan (Channels n) w x a e = channels.decodes-lighter N n ls s w x a .0
-  decoded-plan (Groups m) w x a e = and-left (groups-plans.isPlan N m _) _ e
-  decoded-plan (Tree d) w x a e = and-left (tree-plans.isPlan N d ls _) _ e
 
   -- groups and trees decode exactly where the bits code a plan
   pub groups-decodes : (m : ℕ) (x : List ℕ) → decodes N ls (Groups m) x ≡ true ↔ CodesPlan (isPlan N ls (Groups m)) (codeOf N ls (Groups m)) x

@@ -7,8 +7,10 @@ use lib.ListN.{length, getD, drop}
 use lib.Dec.{eqb, leb}
 use lib.IntN.{ℤ}
 use native.Mathlib.Omega.{arith}
+use native.Mathlib.Decide.{decLe}
 use native.Mathlib.Nat.{suc-ne-zero}
-use borrow.Author.Tests.{le-leb, lt-leb, leb-true, leb-false, lt-ltb, le-ltb, ltb-false, eq-eqb, ne-eqb, not-false}
+use borrow.Author.Count.{below-more}
+use borrow.Author.Tests.{le-leb, lt-leb, leb-true, leb-false, lt-ltb, le-ltb, ltb-false, eq-eqb, ne-eqb, not-true, not-false}
 use Rattle.lists.specs.Tests.{all}
 use Rattle.lists.proofs.Tests.{and-left, and-right, and-both}
 use Rattle.links.specs.Links.{Link, linksOf}
@@ -26,7 +28,7 @@ use Rattle.plans.specs.Kinds.{bitCount, formula, isPlan, weight, codeOf,
 use Rattle.plans.specs.Refusals.{areBits, rowTests, energyTests, codeTests, decodeTests}
 use Rattle.plans.specs.Answers.{numberAnswer, decodedAnswer}
 use Rattle.plans.specs.Calls.{rowNumber, rowPart, rowAfter, energyNumber, energyAnswer, codeNumber, codeAfter, decodeNumber, decodeAnswer, decodeAfter}
-use Rattle.plans.specs.Lent.{decodedBy, planBy}
+use Rattle.plans.specs.Lent.{codeBy, decodedBy, planBy}
 
 -- where `if !t` goes on, the test holds
 pub passed : (t u : Bool) → t ≡ u → not t ≡ false → u ≡ true
@@ -47,12 +49,34 @@ bits-are (b ∷ x) e zero = leb-true b 1 (and-left (leb b 1) _ e)
 bits-are (b ∷ x) e (suc k) = bits-are x (and-right (leb b 1) _ e) k
 
 -- one byte above 1 is enough
-pub are-no-bits : (x : List ℕ) (k : ℕ) → 1 < getD x k 0 → areBits x ≡ false
+are-no-bits : (x : List ℕ) (k : ℕ) → 1 < getD x k 0 → areBits x ≡ false
 are-no-bits x k h = go (areBits x) refl
   where
     go : (t : Bool) → areBits x ≡ t → t ≡ false
     go true e = absurd (omega (arith, bits-are x e k))
     go false e = refl
+
+-- the first i bytes are at most top, and one of all is no bit where top is none
+pub record Topped (x : List ℕ) (i top : ℕ) : Type 0 where
+  pub within : (k : ℕ) → k < i → getD x k 0 ≤ top
+  pub reached : 1 < top → areBits x ≡ false
+
+pub topped-start : (x : List ℕ) → Topped x 0 0
+topped-start x = record { within = λ k h. absurd (omega arith); reached = λ h. absurd (omega arith) }
+
+-- a byte more: the greater of the two
+pub topped-more : (x : List ℕ) (i top : ℕ) → Topped x i top → top < getD x i 0 → Topped x (i + 1) (getD x i 0)
+topped-more x i top t h = record { within = below-more (λ k. getD x k 0 ≤ getD x i 0) i (λ k l. omega (arith, t .within k l)) (omega arith); reached = are-no-bits x i }
+
+pub topped-same : (x : List ℕ) (i top : ℕ) → Topped x i top → getD x i 0 ≤ top → Topped x (i + 1) top
+topped-same x i top t h = record { within = below-more (λ k. getD x k 0 ≤ top) i (t .within) h; reached = t .reached }
+
+pub topped-end : (x : List ℕ) (i top : ℕ) → i ≡ length x → Topped x i top → leb top 1 ≡ areBits x
+topped-end x i top e t =
+    elim (decLe top 1) [
+      | yes h ↦ le-leb top 1 h ∙ sym (are-bits x (λ k l. omega (arith, t .within k (omega arith))))
+      | no h ↦ lt-leb top 1 (omega arith) ∙ sym (t .reached (omega arith))
+    ]
 
 -- bytes that pass both tests, where b is the bit count that the code has in hand
 pub assignment-is : (b n : ℕ) (x : List ℕ) → b ≡ n → length x ≡ b → (t : Bool) → t ≡ areBits x → not t ≡ false → Assignment n x
@@ -172,14 +196,17 @@ module _ (N : ℕ) (us vs ws : List ℕ) (k : Kind) (b : ℕ) (e : b ≡ bitCoun
     unfolding codeTests
     code-fits l m = refusal-next 9 _ _ (rw (eq-eqb (length q) N l, eq-eqb (length x) b m) refl)
 
-    pub code-no-plan : length q ≡ N → length x ≡ b → (t : Bool) → t ≡ isPlan N ls k q → not t ≡ true → (12 ≡ codeNumber [] N ls k q x) × (x ≡ codeAfter [] N ls k q x)
-    code-no-plan l m t h u = code-kept 11 (code-fits l m ∙ refusal-here 12 _ _ (ap not (sym h) ∙ u))
+    pub code-no-plan : length q ≡ N → length x ≡ b → (t : Bool) → t ≡ isPlan N ls k q → not t ≡ true → (s : List ℕ) → s ≡ codeBy N ls k q x → (12 ≡ codeNumber [] N ls k q x) × (s ≡ codeAfter [] N ls k q x)
+    unfolding codeBy
+    code-no-plan l m t h u s p =
+        let g = code-kept 11 (code-fits l m ∙ refusal-here 12 _ _ (ap not (sym h) ∙ u)) in
+        (g .0, p ∙ ap (λ (v : Bool). cond v (codeOf N ls k q) x) (sym h ∙ not-true t u) ∙ g .1)
 
-    pub code-given : length q ≡ N → length x ≡ b → (t : Bool) → t ≡ isPlan N ls k q → not t ≡ false → (s : List ℕ) → s ≡ codeOf N ls k q → (0 ≡ codeNumber [] N ls k q x) × (s ≡ codeAfter [] N ls k q x)
-    unfolding codeAfter
+    pub code-given : length q ≡ N → length x ≡ b → (t : Bool) → t ≡ isPlan N ls k q → not t ≡ false → (s : List ℕ) → s ≡ codeBy N ls k q x → (0 ≡ codeNumber [] N ls k q x) × (s ≡ codeAfter [] N ls k q x)
+    unfolding codeAfter codeBy
     code-given l m t h u s p =
         let g : codeNumber [] N ls k q x ≡ 0 = code-number ∙ code-fits l m ∙ refusal-last 12 _ (ap not (sym h) ∙ u) in
-        (sym g, p ∙ sym (done (codeNumber [] N ls k q x) _ x g))
+        (sym g, p ∙ ap (λ (v : Bool). cond v (codeOf N ls k q) x) (passed t (isPlan N ls k q) h u) ∙ sym (done (codeNumber [] N ls k q x) _ x g))
 
   -- ---- decoding
 

@@ -196,6 +196,11 @@ module _ (s : List ℕ) (m : ℕ) (a : Accepted s 2 m) where
   unfolding kindOf limitsHold bitCount penalty formulaBy isPlan weight codeOf
   groups-least = groups.least-exactly (meters s) m (links s) (groups-facts .survey) (groups-facts .limits)
 
+  -- it is twice the cut weight of a best one: its code is an assignment of least energy,
+  pub groups-weight : (q : List ℕ) → LeastPlanIn s 2 m q → Assignment (bitsIn s 2 m) (codeIn s 2 m q) × LeastEnergyIn s 2 m (codeIn s 2 m q) × (value (formulaIn s 2 m) (codeIn s 2 m q) ≡ pos (2 * weightIn s 2 m q))
+  unfolding kindOf limitsHold bitCount penalty formulaBy isPlan weight codeOf
+  groups-weight = groups.best-least (meters s) m (links s) (groups-facts .survey) (groups-facts .limits)
+
   -- and there is a best one
   pub groups-exists : (q : List ℕ) → isPlanIn s 2 m q ≡ true → (r : List ℕ) × LeastPlanIn s 2 m r
   unfolding kindOf limitsHold bitCount penalty formulaBy isPlan weight codeOf
@@ -256,6 +261,11 @@ module _ (s : List ℕ) (d : ℕ) (a : Accepted s 3 d) where
   pub tree-weight : (T : List Link) → BestTree (meters s) d (links s) T → (x : List ℕ) → Assignment (bitsIn s 3 d) x → LeastEnergyIn s 3 d x → value (formulaIn s 3 d) x ≡ pos (total T)
   unfolding kindOf limitsHold bitCount penalty formulaBy isPlan weight codeOf
   tree-weight = tree.least-weight (meters s) d (links s) (tree-facts .survey) (tree-facts .limits)
+
+  -- which some assignment has,
+  pub tree-reached : (T : List Link) → BestTree (meters s) d (links s) T → (x : List ℕ) × Assignment (bitsIn s 3 d) x × LeastEnergyIn s 3 d x × (value (formulaIn s 3 d) x ≡ pos (total T))
+  unfolding kindOf limitsHold bitCount penalty formulaBy isPlan weight codeOf
+  tree-reached = tree.best-least (meters s) d (links s) (tree-facts .survey) (tree-facts .limits)
 
   -- and there is a best one
   pub tree-exists : (T : List Link) → Spanning (meters s) (links s) T → WithinLimit (meters s) d T → (S : List Link) × BestTree (meters s) d (links s) S

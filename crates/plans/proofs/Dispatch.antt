@@ -1,10 +1,11 @@
 -- What the definitions say where the kind is known, and what that kind's crate asks of its caller. Assumes nothing.
 use Prim.Native.Nat.{ℕ, _-_, _^_, _≤_}
 use mathlib.Core.Path.{_≡_, refl, sym, ap, ap₂, _∙_, subst}
-use mathlib.Core.Bool.{Bool, true, false, cond}
+use mathlib.Core.Bool.{Bool, true, false, not, cond}
 use mathlib.Core.List.{List, _++_}
 use lib.ListN.{length, drop}
 use lib.IntN.{ℤ}
+use borrow.Author.Tests.{not-true, not-false}
 use Rattle.links.specs.Links.{Link, linksOf}
 use Rattle.links.proofs.Arrays.{length-linksOf}
 use Rattle.qubo.specs.Formula.{Formula, Assignment, value}
@@ -35,7 +36,7 @@ use Rattle.plans.specs.declared.Problem.{Problem}
 use Rattle.plans.specs.declared.Decoded.{Decoded}
 use Rattle.plans.specs.declared.Decoded.the-variants as answers
 use Rattle.plans.specs.Kinds.{limitsHold, bitCount, penalty, formulaBy, formula, isPlan, weight, codeOf, decodes, decoded, repaired}
-use Rattle.plans.specs.Lent.{Ready, ofChannels, ofGroups, ofTree, decodedBy, planBy}
+use Rattle.plans.specs.Lent.{Ready, ofChannels, ofGroups, ofTree, codeBy, decodedBy, planBy}
 
 -- ---- by the formula and the bit count, whatever the kind is
 
@@ -66,32 +67,57 @@ pub links-bits : (N : ℕ) (us vs ws : List ℕ) (k : Kind) (b : ℕ) → bitCou
 links-bits N us vs ws k b e = sym (ap (λ (M : ℕ). bitCount N M k) (length-linksOf us vs ws) ∙ e)
 
 module _ (N : ℕ) (ls : List Link) (k : Kind) (p : List ℕ) where
+  -- t is what the test of a plan said: a plan is coded, and else the bits are as they were
+  coded-plan : (t : Bool) → t ≡ isPlan N ls k p → not t ≡ false → (s x : List ℕ) → s ≡ codeOf N ls k p → (true ≡ isPlan N ls k p) × (s ≡ codeBy N ls k p x)
+  unfolding codeBy
+  coded-plan t h u s x d = let e : isPlan N ls k p ≡ true = sym h ∙ not-false t u in rw e (refl, d)
+
+  coded-none : (t : Bool) → t ≡ isPlan N ls k p → not t ≡ true → (x : List ℕ) → (false ≡ isPlan N ls k p) × (x ≡ codeBy N ls k p x)
+  unfolding codeBy
+  coded-none t h u x = let e : isPlan N ls k p ≡ false = sym h ∙ not-true t u in rw e (refl, refl)
+
   module _ (n : ℕ) (e : k ≡ Channels n) where
-    pub channels-plan : isPlan N ls k p ≡ channels-plans.isPlan N n p
+    channels-plan : isPlan N ls k p ≡ channels-plans.isPlan N n p
     unfolding isPlan
     channels-plan = ap (λ (t : Kind). isPlan N ls t p) e
 
-    pub channels-code : codeOf N ls k p ≡ channels-plans.codeOf n p
+    channels-code : codeOf N ls k p ≡ channels-plans.codeOf n p
     unfolding codeOf
     channels-code = ap (λ (t : Kind). codeOf N ls t p) e
 
+    pub channels-coded : (t : Bool) → t ≡ channels-plans.isPlan N n p → not t ≡ false → (s x : List ℕ) → s ≡ channels-plans.codeOf n p → (true ≡ isPlan N ls k p) × (s ≡ codeBy N ls k p x)
+    channels-coded t h u s x d = coded-plan t (h ∙ sym channels-plan) u s x (d ∙ sym channels-code)
+
+    pub channels-uncoded : (t : Bool) → t ≡ channels-plans.isPlan N n p → not t ≡ true → (x : List ℕ) → (false ≡ isPlan N ls k p) × (x ≡ codeBy N ls k p x)
+    channels-uncoded t h u x = coded-none t (h ∙ sym channels-plan) u x
+
   module _ (m : ℕ) (e : k ≡ Groups m) where
-    pub groups-plan : isPlan N ls k p ≡ groups-plans.isPlan N m p
+    groups-plan : isPlan N ls k p ≡ groups-plans.isPlan N m p
     unfolding isPlan
     groups-plan = ap (λ (t : Kind). isPlan N ls t p) e
 
-    pub groups-code : codeOf N ls k p ≡ groups-plans.codeOf m p
+    groups-code : codeOf N ls k p ≡ groups-plans.codeOf m p
     unfolding codeOf
     groups-code = ap (λ (t : Kind). codeOf N ls t p) e
 
+    pub groups-coded : (t : Bool) → t ≡ groups-plans.isPlan N m p → not t ≡ false → (s x : List ℕ) → s ≡ groups-plans.codeOf m p → (true ≡ isPlan N ls k p) × (s ≡ codeBy N ls k p x)
+    groups-coded t h u s x d = coded-plan t (h ∙ sym groups-plan) u s x (d ∙ sym groups-code)
+
+    pub groups-uncoded : (t : Bool) → t ≡ groups-plans.isPlan N m p → not t ≡ true → (x : List ℕ) → (false ≡ isPlan N ls k p) × (x ≡ codeBy N ls k p x)
+    groups-uncoded t h u x = coded-none t (h ∙ sym groups-plan) u x
+
   module _ (d : ℕ) (e : k ≡ Tree d) where
-    pub tree-plan : isPlan N ls k p ≡ tree-plans.isPlan N d ls p
+    tree-plan : isPlan N ls k p ≡ tree-plans.isPlan N d ls p
     unfolding isPlan
     tree-plan = ap (λ (t : Kind). isPlan N ls t p) e
 
-    pub tree-code : codeOf N ls k p ≡ tree-plans.codeOf N d ls p
+    tree-code : codeOf N ls k p ≡ tree-plans.codeOf N d ls p
     unfolding codeOf
     tree-code = ap (λ (t : Kind). codeOf N ls t p) e
+
+    pub tree-coded : (t : Bool) (s x : List ℕ) → (t ≡ tree-plans.isPlan N d ls p) × (s ≡ cond (tree-plans.isPlan N d ls p) (tree-plans.codeOf N d ls p) x) → (t ≡ isPlan N ls k p) × (s ≡ codeBy N ls k p x)
+    unfolding codeBy
+    tree-coded t s x h = rw (tree-plan, tree-code) h
 
 -- ---- what each kind asks for, of a problem that is ready, and its formula
 
@@ -122,9 +148,6 @@ module _ (pr : Problem) (us vs ws : List ℕ) (r : Ready pr us vs ws) where
     pub channels-assignment : (x : List ℕ) → Assignment (bitCount N (length us) (pr .kind)) x → Assignment (channels.bitCount N n) x
     channels-assignment x a = subst (λ (b : ℕ). Assignment b x) (channels-bits N (length us) (pr .kind) n e) a
 
-    pub channels-codes : (p : List ℕ) (size : ℕ) → isPlan N ls (pr .kind) p ≡ true → size ≡ bitCount N (length us) (pr .kind) → (channels-plans.isPlan N n p ≡ true) × (size ≡ channels.bitCount N n)
-    channels-codes p size t l = (sym (channels-plan N ls (pr .kind) p n e) ∙ t, l ∙ channels-bits N (length us) (pr .kind) n e)
-
   module _ (m : ℕ) (e : pr .kind ≡ Groups m) where
     pub groups-lent : onehot-site.Lent N m us vs ws
     unfolding limitsHold
@@ -141,9 +164,6 @@ module _ (pr : Problem) (us vs ws : List ℕ) (r : Ready pr us vs ws) where
     pub groups-assignment : (x : List ℕ) → Assignment (bitCount N (length us) (pr .kind)) x → Assignment (groups.bitCount N m) x
     groups-assignment x a = subst (λ (b : ℕ). Assignment b x) (groups-bits N (length us) (pr .kind) m e) a
 
-    pub groups-codes : (p : List ℕ) (size : ℕ) → isPlan N ls (pr .kind) p ≡ true → size ≡ bitCount N (length us) (pr .kind) → (groups-plans.isPlan N m p ≡ true) × (size ≡ groups.bitCount N m)
-    groups-codes p size t l = (sym (groups-plan N ls (pr .kind) p m e) ∙ t, l ∙ groups-bits N (length us) (pr .kind) m e)
-
   module _ (d : ℕ) (e : pr .kind ≡ Tree d) where
     pub tree-lent : tree-site.Lent N d us vs ws
     unfolding limitsHold
@@ -159,9 +179,6 @@ module _ (pr : Problem) (us vs ws : List ℕ) (r : Ready pr us vs ws) where
 
     pub tree-assignment : (x : List ℕ) → Assignment (bitCount N (length us) (pr .kind)) x → Assignment (tree.bitCount N (length us) d) x
     tree-assignment x a = subst (λ (b : ℕ). Assignment b x) (tree-bits N (length us) (pr .kind) d e) a
-
-    pub tree-codes : (p : List ℕ) (size : ℕ) → isPlan N ls (pr .kind) p ≡ true → size ≡ bitCount N (length us) (pr .kind) → (tree-plans.isPlan N d ls p ≡ true) × (size ≡ tree.bitCount N (length us) d)
-    tree-codes p size t l = (sym (tree-plan N ls (pr .kind) p d e) ∙ t, l ∙ tree-bits N (length us) (pr .kind) d e)
 
 -- ---- decoding
 

@@ -1,8 +1,8 @@
 -- 01's worked surveys marked P: a test of a line, computed over the whole table at once, and the law that what passes the test is what the line means. Assumes nothing.
 use Prim.Native.Nat.{ℕ, zero, suc, _+_, _%_, _≤_}
-use mathlib.Core.Path.{_≡_, refl, sym, ap, _∙_}
-use mathlib.Core.Bool.{Bool, true, false, _&&_, not, true≢false, false≢true}
-use mathlib.Core.List.{List, [], _∷_, List·Memᴰ}
+use mathlib.Core.Path.{_≡_, refl, sym, ap, subst, _∙_}
+use mathlib.Core.Bool.{Bool, true, false, _&&_, _||_, not, true≢false, false≢true}
+use mathlib.Core.List.{List, [], _∷_, List·Memᴰ, List·Memᴰ·head, List·Memᴰ·tail}
 use lib.ListN.{length}
 use lib.IntN.{ℤ, pos, negsuc}
 use lib.Dec.{eqb, leb}
@@ -29,7 +29,7 @@ use Rattle.site.proofs.Refused.{refusal-next, refusal-here}
 use Rattle.groups.proofs.Demands as groups
 use Rattle.tree.specs.Plans as tree-plans
 use Rattle.tree.specs.Best as tree-best
-use Rattle.tree.proofs.Trial.{options, tried, noLighter, noPlan, none-lighter, none-plan}
+use Rattle.tree.proofs.Trial.{options, tried, noLighter, noPlan, plans-tried, none-lighter, none-plan}
 use Rattle.tree.proofs.PlanFacts.{least-best}
 use Rattle.tree.proofs.Demands as tree
 use Rattle.plans.specs.declared.Kind.{Kind}
@@ -88,6 +88,15 @@ unplanned N ls (Channels n) = false
 unplanned N ls (Groups m) = false
 unplanned N ls (Tree d) = tried (noPlan N d ls) (options ls) 1 N []
 
+-- every plan is among those: over all lists of parents of a tree
+among : List (List ℕ) → List ℕ → Bool
+among qs p = any (alike p) qs
+
+listed : ℕ → List Link → Kind → List (List ℕ) → Bool
+listed N ls (Channels n) qs = false
+listed N ls (Groups m) qs = false
+listed N ls (Tree d) qs = tried (λ p. not (tree-plans.isPlan N d ls p) || among qs p) (options ls) 1 N []
+
 -- N does not divide into equal groups
 undivided : ℕ → Kind → Bool
 undivided N (Channels n) = false
@@ -103,6 +112,7 @@ holds N ls k (lines.pair i j z) = same-int (pairOf (formula N ls k) i j) z
 holds N ls k (lines.energy x e) = same-int (value (formula N ls k) x) (pos e)
 holds N ls k (lines.plan q) = isPlan N ls k q
 holds N ls k (lines.plan-of q w) = isPlan N ls k q && (eqb (weight ls k q) w && same-int (value (formula N ls k) (codeOf N ls k q)) (pos w))
+holds N ls k (lines.just qs) = listed N ls k qs
 holds N ls k (lines.no-plan-12 q) = eqb (length q) N && not (isPlan N ls k q)
 holds N ls k (lines.mended x q w m) = alike (decoded N ls k x) q && (eqb (weight ls k q) w && eqb (repaired N k x) m)
 holds N ls k (lines.least q w) = isPlan N ls k q && (eqb (weight ls k q) w && lightest N ls k w)
@@ -110,6 +120,15 @@ holds N ls k lines.nothing-below = unplanned N ls k
 holds N ls k lines.no-plan = undivided N k
 
 -- ---- what passes is what the line means
+
+among-in : (p : List ℕ) (qs : List (List ℕ)) → among qs p ≡ true → List·Memᴰ p qs
+unfolding among any
+among-in p [] t = absurd (false≢true t)
+among-in p (q ∷ qs) t = pick (alike p q) refl t (among-in p qs)
+  where
+    pick : (b : Bool) → alike p q ≡ b → (b || among qs p) ≡ true → (among qs p ≡ true → List·Memᴰ p qs) → List·Memᴰ p (q ∷ qs)
+    pick true h u later = List·Memᴰ·head (alike-same p q h)
+    pick false h u later = List·Memᴰ·tail (later u)
 
 module _ (N : ℕ) (ls : List Link) (s : Survey N ls) where
   -- a plan that no plan is lighter than, and the least energy
@@ -127,6 +146,12 @@ module _ (N : ℕ) (ls : List Link) (s : Survey N ls) where
   below-shown (Channels n) l t = absurd (false≢true t)
   below-shown (Groups m) l t = absurd (false≢true t)
   below-shown (Tree d) l t = tree.none-below N d ls s l (λ T a w. let p = tree.tree-plan N d ls s l T a w in none-plan N d ls (s .each) t (p .0) (p .1))
+
+  listed-shown : (k : Kind) (qs : List (List ℕ)) → listed N ls k qs ≡ true → Means N ls k (lines.just qs)
+  unfolding listed isPlan
+  listed-shown (Channels n) qs t q e = absurd (false≢true t)
+  listed-shown (Groups m) qs t q e = absurd (false≢true t)
+  listed-shown (Tree d) qs t q e = among-in q qs (subst (λ (b : Bool). (not b || among qs q) ≡ true) e (plans-tried N d ls (s .each) _ t q e))
 
   none-shown : (k : Kind) → limitsHold N k ≡ true → undivided N k ≡ true → Means N ls k lines.no-plan
   unfolding limitsHold isPlan undivided
@@ -151,6 +176,7 @@ module _ (N : ℕ) (ls : List Link) (s : Survey N ls) where
   shown k w (lines.plan-of q v) t =
       let r = and-right (isPlan N ls k q) _ t in
       (and-left (isPlan N ls k q) _ t, eqb-true (weight ls k q) v (and-left (eqb (weight ls k q) v) _ r), int-same (value (formula N ls k) (codeOf N ls k q)) (pos v) (and-right (eqb (weight ls k q) v) _ r))
+  shown k w (lines.just qs) t = listed-shown k qs t
   shown k w (lines.no-plan-12 q) t = λ x h. refused-shown k q x (eqb-true (length q) N (and-left (eqb (length q) N) _ t)) (not-true (isPlan N ls k q) (and-right (eqb (length q) N) _ t)) h
   shown k w (lines.mended x q v m) t =
       let r = and-right (alike (decoded N ls k x) q) _ t in
@@ -176,7 +202,7 @@ passes e =
 
 -- computed
 table-passes : all passes table ≡ true
-unfolding table passes holds same-int same-ints lightest unplanned undivided all alike from every any tried options noLighter noPlan limitsHold bitCount penalty formulaBy isPlan weight codeOf decoded repaired linkOk ascending ascendingFrom before total isAt hasEnds present sumTo sumOf greatest leastAt lowest same differ nth rowOf bitAt setAt oneHots areChoices code c-formula.withinLimits c-formula.load c-formula.penalty c-formula.clashTerms c-formula.formula c-plans.isPlan c-plans.codeOf c-plans.clashWeight c-repair.bears c-repair.heard c-repair.quietest c-repair.repairOne c-repair.repairBy c-repair.decoded c-repair.repaired g-formula.withinLimits g-formula.penalty g-formula.sizeTerms g-formula.cutTerms g-formula.formula tree-formula.withinLimits tree-formula.penalty tree-formula.formulaTo tree-plans.fewNeighbours tree-plans.isPlan tree-plans.treeWeight tree-plans.depthChoices tree-plans.arcChoice tree-plans.arcChoices tree-plans.countChoices tree-plans.codeOf deepest depthOf atMost linked parentLinked rootsOf isRooted neighbours isUsed treeLinks arcs arcsFrom depthTerms entryTerms endTerms weightTerms countTerms degreeTerms
+unfolding table passes holds same-int same-ints lightest unplanned among listed undivided all alike from every any tried options noLighter noPlan limitsHold bitCount penalty formulaBy isPlan weight codeOf decoded repaired linkOk ascending ascendingFrom before total isAt hasEnds present sumTo sumOf greatest leastAt lowest same differ nth rowOf bitAt setAt oneHots areChoices code c-formula.withinLimits c-formula.load c-formula.penalty c-formula.clashTerms c-formula.formula c-plans.isPlan c-plans.codeOf c-plans.clashWeight c-repair.bears c-repair.heard c-repair.quietest c-repair.repairOne c-repair.repairBy c-repair.decoded c-repair.repaired g-formula.withinLimits g-formula.penalty g-formula.sizeTerms g-formula.cutTerms g-formula.formula tree-formula.withinLimits tree-formula.penalty tree-formula.formulaTo tree-plans.fewNeighbours tree-plans.isPlan tree-plans.treeWeight tree-plans.depthChoices tree-plans.arcChoice tree-plans.arcChoices tree-plans.countChoices tree-plans.codeOf deepest depthOf atMost linked parentLinked rootsOf isRooted neighbours isUsed treeLinks arcs arcsFrom depthTerms entryTerms endTerms weightTerms countTerms degreeTerms
 table-passes = refl
 
 -- one entry

@@ -93,49 +93,58 @@ weightIn s k p q = weight (links s) (kindOf k p) q
 abbrev pub codeIn : List ℕ → ℕ → ℕ → List ℕ → List ℕ
 codeIn s k p q = codeOf (meters s) (links s) (kindOf k p) q
 
--- bit count, penalty and constant: refused by 1, 7, 8
+-- bit count, penalty and constant, refused by 1, 7, 8: the refusal's number
 unfoldable pub acceptNumberIn : List ℕ → ℕ → ℕ → ℕ
 acceptNumberIn s k p = refusal (imageTests s k p)
 
+-- the bit count, or the refusal
 unfoldable pub bitsAnswerIn : List ℕ → ℕ → ℕ → Number
 bitsAnswerIn s k p = numberAnswer (acceptNumberIn s k p) (pos (bitsIn s k p))
 
+-- A, or the refusal
 unfoldable pub penaltyAnswerIn : List ℕ → ℕ → ℕ → Number
 penaltyAnswerIn s k p = numberAnswer (acceptNumberIn s k p) (pos (penaltyIn s k p))
 
+-- the constant, or the refusal
 unfoldable pub constantAnswerIn : List ℕ → ℕ → ℕ → Number
 constantAnswerIn s k p = numberAnswer (acceptNumberIn s k p) (constantOf (formulaIn s k p))
 
--- rows: 1, 7, 8, 10, 9
+-- row i, refused by 1, 7, 8, 10, 9: the refusal's number
 abbrev pub rowNumberIn : List ℕ → ℕ → ℕ → ℕ → ℕ → ℕ
 rowNumberIn s k p i room = rowNumber (imageTests s k p) (meters s) (links s) (kindOf k p) i room
 
+-- "the front part of the lent slice", empty on refusal
 abbrev pub rowPartIn : List ℕ → ℕ → ℕ → ℕ → ℕ → List ℤ
 rowPartIn s k p i room = rowPart (imageTests s k p) (meters s) (links s) (kindOf k p) i room
 
+-- the lent slice afterwards
 abbrev pub rowAfterIn : List ℕ → ℕ → ℕ → ℕ → List ℤ → List ℤ
 rowAfterIn s k p i out = rowAfter (imageTests s k p) (meters s) (links s) (kindOf k p) i out
 
--- energy: 1, 7, 8, 9, 11
+-- the energy of x, refused by 1, 7, 8, 9, 11: the refusal's number
 abbrev pub energyNumberIn : List ℕ → ℕ → ℕ → List ℕ → ℕ
 energyNumberIn s k p x = energyNumber (imageTests s k p) (meters s) (links s) (kindOf k p) x
 
+-- the energy, or the refusal
 abbrev pub energyAnswerIn : List ℕ → ℕ → ℕ → List ℕ → Number
 energyAnswerIn s k p x = energyAnswer (imageTests s k p) (meters s) (links s) (kindOf k p) x
 
--- coding: 1, 7, 8, 9, 12
+-- coding q, refused by 1, 7, 8, 9, 12: the refusal's number
 abbrev pub codeNumberIn : List ℕ → ℕ → ℕ → List ℕ → List ℕ → ℕ
 codeNumberIn s k p q x = codeNumber (imageTests s k p) (meters s) (links s) (kindOf k p) q x
 
+-- the lent bits afterwards
 abbrev pub codeAfterIn : List ℕ → ℕ → ℕ → List ℕ → List ℕ → List ℕ
 codeAfterIn s k p q x = codeAfter (imageTests s k p) (meters s) (links s) (kindOf k p) q x
 
--- decoding: 1, 7, 8, 9, 11, 12
+-- decoding x, refused by 1, 7, 8, 9, 11, 12: the refusal's number
 abbrev pub decodeNumberIn : List ℕ → ℕ → ℕ → List ℕ → List ℕ → ℕ
 decodeNumberIn s k p x q = decodeNumber (imageTests s k p) (meters s) (links s) (kindOf k p) x q
 
+-- the weight of the plan and the number repaired, or the refusal
 abbrev pub decodeAnswerIn : List ℕ → ℕ → ℕ → List ℕ → List ℕ → Decoded
 decodeAnswerIn s k p x q = decodeAnswer (imageTests s k p) (meters s) (links s) (kindOf k p) x q
 
+-- the lent plan afterwards
 abbrev pub decodeAfterIn : List ℕ → ℕ → ℕ → List ℕ → List ℕ → List ℕ
 decodeAfterIn s k p x q = decodeAfter (imageTests s k p) (meters s) (links s) (kindOf k p) x q

@@ -17,7 +17,7 @@ use Rattle.plans.specs.declared.problems.Posed.{Posed}
 use Rattle.plans.specs.declared.problems.Posed.the-variants.{Accepted, Refused}
 use Rattle.plans.specs.declared.Decoded.{Decoded}
 use Rattle.plans.specs.declared.Decoded.the-variants as answers
-use Rattle.plans.specs.Kinds.{kindOf, limitsHold, bitCount, penalty, weight, decodes, decoded, repaired}
+use Rattle.plans.specs.Kinds.{kindOf, limitsHold, bitCount, penalty, isPlan, weight, codeOf, decodes, decoded, repaired}
 
 -- the problem of a site of N meters and a kind with its parameter
 abbrev pub problemOf : ℕ → List Link → ℕ → ℕ → Problem
@@ -39,6 +39,12 @@ pub record Weighed (N A : ℕ) (k : Kind) : Type 0 where
   pub site : List Link
   pub survey : Survey N site
   pub is-penalty : A ≡ penalty N site k
+
+-- ---- coding, where lengths are right
+
+-- what is then in the lent bits, which held x: the code of a plan q, and what they held where q is none
+unfoldable pub codeBy : ℕ → List Link → Kind → List ℕ → List ℕ → List ℕ
+codeBy N ls k q x = cond (isPlan N ls k q) (codeOf N ls k q) x
 
 -- ---- decoding, where lengths and bits are right
 

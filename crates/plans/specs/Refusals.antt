@@ -23,7 +23,7 @@ badKind N k p = not (leb 1 k && leb k 3) || not (limitsHold N (kindOf k p))
 unfoldable pub areBits : List ℕ → Bool
 areBits x = all (λ b. leb b 1) x
 
--- ---- what concerns a kind with its parameter, for a site of N meters and M links: 7, 8 "more than 8,192 bits"
+-- what concerns a kind with its parameter, for a site of N meters and M links: 7, 8 "more than 8,192 bits"
 unfoldable pub kindTests : ℕ → ℕ → ℕ → ℕ → List (ℕ × Bool)
 kindTests N M k p = (7, badKind N k p) ∷ (8, ltb MOST-BITS (bitCount N M (kindOf k p))) ∷ []
 

@@ -2,7 +2,7 @@
 use Prim.Native.Nat.{ℕ}
 use mathlib.Core.Path.{_≡_}
 use mathlib.Core.Bool.{true}
-use mathlib.Core.List.{List, [], _∷_}
+use mathlib.Core.List.{List, [], _∷_, List·Memᴰ}
 use lib.ListN.{length}
 use lib.IntN.{ℤ, pos, negsuc}
 use lib.Signed.{_≤ℤ_}
@@ -15,8 +15,7 @@ use Rattle.plans.specs.declared.Kind.the-variants.{Channels, Groups, Tre
 use Rattle.plans.specs.Kinds.{bitCount, penalty, formula, isPlan, weight, codeOf, decoded, repaired}
 use Rattle.plans.specs.Calls.{codeNumber}
 
--- ---- what a line may say
-
+-- what a line may say
 pub data Line : Type 0 where
   bits : ℕ → Line
   A : ℕ → Line
@@ -26,6 +25,7 @@ pub data Line : Type 0 where
   energy : List ℕ → ℕ → Line
   plan : List ℕ → Line
   plan-of : List ℕ → ℕ → Line
+  just : List (List ℕ) → Line
   no-plan-12 : List ℕ → Line
   mended : List ℕ → List ℕ → ℕ → ℕ → Line
   least : List ℕ → ℕ → Line
@@ -50,6 +50,8 @@ Means N ls k (energy x e) = value (formula N ls k) x ≡ pos e
 Means N ls k (plan q) = isPlan N ls k q ≡ true
 -- q is a plan of weight w, and its code has energy w
 Means N ls k (plan-of q w) = (isPlan N ls k q ≡ true) × (weight ls k q ≡ w) × (value (formula N ls k) (codeOf N ls k q) ≡ pos w)
+-- there are no plans but those in qs
+Means N ls k (just qs) = (q : List ℕ) → isPlan N ls k q ≡ true → List·Memᴰ q qs
 -- q is none, and coding it gives 12
 Means N ls k (no-plan-12 q) = (x : List ℕ) → length x ≡ bitCount N (length ls) k → codeNumber [] N ls k q x ≡ 12
 -- the bits x are mended to q, of weight w, with m meters mended
@@ -71,6 +73,7 @@ pub record Worked : Type 0 where
   pub kind : Kind
   pub lines : List Line
 
+-- the link between u and v of weight w
 abbrev pub link : ℕ → ℕ → ℕ → Link
 link u v w = record { u = u; v = v; weight = w }
 
@@ -78,6 +81,7 @@ link u v w = record { u = u; v = v; weight = w }
 abbrev pub five : List Link
 five = link 1 2 1 ∷ link 1 3 1 ∷ link 1 4 1 ∷ link 3 5 60000 ∷ link 4 5 1 ∷ []
 
+-- "Those marked P, of the definitions", in 01's order
 unfoldable pub table : List Worked
 table =
     -- the listing; "bits 1001 have energy 0, all-zero bits 8"
@@ -121,6 +125,7 @@ table =
           ∷ A 6
           ∷ plan-of (0 ∷ 1 ∷ []) 5
           ∷ plan-of (2 ∷ 0 ∷ []) 5
+          ∷ just ((0 ∷ 1 ∷ []) ∷ (2 ∷ 0 ∷ []) ∷ [])
           ∷ energy (0 ∷ 0 ∷ 0 ∷ 0 ∷ 0 ∷ 0 ∷ 0 ∷ 0 ∷ []) 30
           ∷ [];
     }

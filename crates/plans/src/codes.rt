@@ -1,44 +1,42 @@
 // Codes of plans.
 ghost use mathlib.Core.Path.{_≡_};
-ghost use mathlib.Core.Bool.{true};
 ghost use mathlib.Core.List.{[]};
 ghost use lib.ListN.{length};
 ghost use Rattle.links.specs.Links.{linksOf};
 ghost use Rattle.links.specs.Survey.{Arrays};
-ghost use Rattle.plans.specs.Kinds.{kindOf, bitCount, isPlan, codeOf};
+ghost use Rattle.plans.specs.Kinds.{kindOf, bitCount, isPlan};
 ghost use Rattle.plans.specs.Refusals.{kindTests};
 ghost use Rattle.plans.specs.Calls.{codeNumber, codeAfter};
-ghost use Rattle.plans.specs.Lent.{Ready};
+ghost use Rattle.plans.specs.Lent.{Ready, codeBy};
 use crate::Kind;
 use crate::Problem;
 use crate::problems;
 use crate::problems::Posed;
 
-// Whether the bytes are a plan, by the kind.
-fn is_plan(problem: Problem, us: &[u8], vs: &[u8], ws: &[u16], plan: &[u8]) -> bool
-    requires { ⌜ Ready problem (now us) (now vs) (now ws) ⌝ }
-    ensures { λ r. ⌜ r ≡ isPlan (problem .meters) (linksOf (now (us .entry)) (now (vs .entry)) (now (ws .entry))) (problem .kind) (now (plan .entry)) ⌝ }
+// Whether the bytes are a plan, by the kind; where they are, the bits are then its code.
+fn code(problem: Problem, us: &[u8], vs: &[u8], ws: &[u16], plan: &[u8], out: &mut [u8]) -> bool
+    requires { ⌜ Ready problem (now us) (now vs) (now ws) × (length (now out) ≡ bitCount (problem .meters) (length (now us)) (problem .kind)) ⌝ }
+    ensures plan { λ r. ⌜ r ≡ isPlan (problem .meters) (linksOf (now (us .entry)) (now (vs .entry)) (now (ws .entry))) (problem .kind) (now (plan .entry)) ⌝ }
+    ensures bits { λ _. ⌜ now (out .exit) ≡ codeBy (problem .meters) (linksOf (now (us .entry)) (now (vs .entry)) (now (ws .entry))) (problem .kind) (now (plan .entry)) (now (out .entry)) ⌝ }
 {
     let kind = problem.kind;
     let meters = problem.meters;
     match kind {
-        Kind::Channels(n) => channels::is_plan(plan, meters, n),
-        Kind::Groups(m) => groups::is_plan(plan, meters, m),
-        Kind::Tree(d) => tree::is_plan(plan, us, vs, ws, meters, d),
-    }
-}
-
-// The code of a plan, by the kind.
-fn code(problem: Problem, us: &[u8], vs: &[u8], ws: &[u16], plan: &[u8], out: &mut [u8])
-    requires { ⌜ Ready problem (now us) (now vs) (now ws) × (isPlan (problem .meters) (linksOf (now us) (now vs) (now ws)) (problem .kind) (now plan) ≡ true) × (length (now out) ≡ bitCount (problem .meters) (length (now us)) (problem .kind)) ⌝ }
-    ensures { λ _. ⌜ now (out .exit) ≡ codeOf (problem .meters) (linksOf (now (us .entry)) (now (vs .entry)) (now (ws .entry))) (problem .kind) (now (plan .entry)) ⌝ }
-{
-    let kind = problem.kind;
-    let meters = problem.meters;
-    match kind {
-        Kind::Channels(n) => channels::encode(plan, meters, n, out),
-        Kind::Groups(m) => groups::encode(plan, meters, m, out),
-        Kind::Tree(d) => tree::encode(plan, us, vs, ws, meters, d, out),
+        Kind::Channels(n) => {
+            if !channels::is_plan(plan, meters, n) {
+                return false;
+            }
+            channels::encode(plan, meters, n, out);
+            true
+        }
+        Kind::Groups(m) => {
+            if !groups::is_plan(plan, meters, m) {
+                return false;
+            }
+            groups::encode(plan, meters, m, out);
+            true
+        }
+        Kind::Tree(d) => tree::encode_plan(plan, us, vs, ws, meters, d, out),
     }
 }
 
@@ -62,10 +60,9 @@ fn checked(
     if out.len() != bits {
         return 9;
     }
-    if !is_plan(problem, us, vs, ws, plan) {
+    if !code(problem, us, vs, ws, plan, out) {
         return 12;
     }
-    code(problem, us, vs, ws, plan, out);
     0
 }
 

@@ -15,18 +15,19 @@ use crate::Problem;
 use crate::problems;
 use crate::problems::Posed;
 
-// Whether each lent byte is 0 or 1.
+// Whether each lent byte is 0 or 1: whether the greatest is. The loop goes through all of them, many bytes at a time.
 pub fn are_bits(bits: &[u8]) -> bool
     ensures { λ r. ⌜ r ≡ areBits (now (bits .entry)) ⌝ }
 {
+    let mut top: u8 = 0;
     let mut i = 0;
     while i < bits.len() {
-        if 1 < bits[i] {
-            return false;
+        if top < bits[i] {
+            top = bits[i];
         }
         i += 1;
     }
-    true
+    top <= 1
 }
 
 // The energy of an assignment, by the kind.

@@ -1,4 +1,4 @@
--- A loop that adds the terms of n entries to row i, entry by entry: G k are the terms of entry k, and left k those from entry k on. Loops over links cite these. Assumes nothing.
+-- A loop that adds the terms of n entries to row i, entry by entry: G k are the terms of entry k, and left k those from entry k on. Assumes nothing.
 use mathlib.Core.Path.{_≡_, refl, sym, ap, _∙_}
 use mathlib.Core.List.{List, [], _++_}
 use Prim.Native.Nat.{ℕ, zero, suc, _+_, _-_, _≤_, _<_}

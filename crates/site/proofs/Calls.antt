@@ -3,22 +3,24 @@ use Prim.Native.Nat.{ℕ, _≤_, _<_}
 use mathlib.Core.Bool.{Bool, true, false, not, _||_}
 use mathlib.Core.Path.{_≡_, refl, sym, ap, _∙_}
 use mathlib.Core.List.{List, [], _∷_}
-use lib.ListN.{length, set}
+use lib.ListN.{length, set, take, replicate}
 use lib.Dec.{ltb}
 use borrow.Author.Tests.{eq-eqb, ne-eqb, ltb-false, not-false}
 use native.Mathlib.Omega.{arith}
 use native.Mathlib.Nat.{suc-ne-zero}
-use Rattle.links.specs.Links.{badEnds, low, high, present}
+use Rattle.links.specs.Links.{badEnds, low, high, present, endsU, endsV, weights}
 use Rattle.lists.proofs.Tests.{or-right}
-use Rattle.site.specs.Layout.{SIZE, RECORDS, METERS, count, metersAt, freeAt, meters, firstFree, setWord}
+use Rattle.site.specs.Layout.{SIZE, RECORDS, METERS, byte, word, count, metersAt, countAt, freeAt, meters, firstFree, setWord}
 use Rattle.site.specs.Image.{links, valid}
 use Rattle.site.specs.Refusal.{refusal}
 use Rattle.site.specs.Edits.{checkRefusal, zeros, chained, place, after, beginBytes, beginRefusal, beginImage, addBytes, addRefusal, addImage, removeBytes, removeRefusal, removeImage}
 use Rattle.site.specs.Reading.{readMeters, readLinks, storeFrom, over}
 use Rattle.site.specs.Walks.{findRefusal, isLink, atPlace}
-use Rattle.site.proofs.Placed.{at-place}
+use Rattle.links.proofs.Arrays.{length-endsU, length-endsV, length-weights}
+use Rattle.site.proofs.Placed.{at-place, place-fits}
 use Rattle.site.proofs.Valid.{valid-long, links-survey}
 use Rattle.site.proofs.Refused.{refusal-here, refusal-next, refusal-last, refusal-none, done, kept, add-zero, ends-order}
+use Rattle.site.proofs.Filling.{length-over, take-over, count-links}
 use Rattle.site.proofs.AddKeeps.{add-fits}
 use Rattle.site.proofs.RemoveKeeps.{remove-fits}
 
@@ -46,6 +48,14 @@ passed true q xs e = absurd (suc-ne-zero 0 e)
 passed false true xs e = absurd (suc-ne-zero 1 e)
 passed false false xs e = refl
 
+-- what find has in hand of a valid image
+pub find-held : (s : List ℕ) (u v p : ℕ) {r : Bool} {P Q R : Type 0} → (r ≡ valid s) × (r ≡ true → P × Q × R × (p ≡ place s u v)) → not r ≡ false → (valid s ≡ true) × (length s ≡ SIZE) × (p ≡ place s u v) × (p ≤ RECORDS)
+find-held s u v p {r} w n =
+    let t = not-false r n in
+    let e = sym (w .0) ∙ t in
+    let q = w .1 t .3 in
+    (e, valid-long s e, q, omega (arith, q, place-fits s u v e))
+
 module _ (s : List ℕ) (a b : ℕ) where
   pub find-image : valid s ≡ false → 1 ≡ findRefusal s a b
   unfolding findRefusal refusal
@@ -62,6 +72,18 @@ module _ (s : List ℕ) (a b : ℕ) where
   pub find-long : findRefusal s a b ≡ 0 → length s ≡ SIZE
   unfolding findRefusal
   find-long e = valid-long s (not-false (valid s) (refusal-none 0 _ _ e .0))
+
+  -- the number of meters that was read tells whether the ends are bad
+  pub ends-tell : {n : ℕ} {t v : Bool} → n ≡ byte s metersAt → t ≡ badEnds n a b → t ≡ v → badEnds (meters s) a b ≡ v
+  unfolding meters
+  ends-tell e f g = rw (← e) (sym f ∙ g)
+
+  -- the ends, taken as numbers below 256, are those given
+  pub ends-taken : {u v x y : ℕ} → valid s ≡ true → badEnds (meters s) a b ≡ false → x ≡ low a b → (x < 256 → u ≡ x) → y ≡ high a b → (y < 256 → v ≡ y) → (u ≡ low a b) × (v ≡ high a b)
+  ends-taken e f g h k l =
+      let o = ends-order (meters s) a b f in
+      let m = links-survey s e .meters-high in
+      (h (omega (arith, g, o, m)) ∙ g, l (omega (arith, k, o, m)) ∙ k)
 
   -- what find tells of a link
   pub found : (u v p q : ℕ) {t : Bool} → valid s ≡ true → u ≡ low a b → v ≡ high a b → p ≡ place s u v → q ≡ after s p → t ≡ isLink s u v q
@@ -191,3 +213,51 @@ module _ (s : List ℕ) where
   pub meters-all : valid s ≡ true → meters s ≡ readMeters s
   unfolding readMeters
   meters-all e = rw e
+
+-- what read has in hand where the image is valid: m places of its own arrays hold the links
+pub record Held (s : List ℕ) (m : ℕ) (us vs ws : List ℕ) : Type 0 where
+  pub is-valid : valid s ≡ true
+  pub counted : m ≡ length (links s)
+  pub few : m ≤ RECORDS
+  pub room-u : m ≤ length us
+  pub room-v : m ≤ length vs
+  pub room-w : m ≤ length ws
+  pub u : take m us ≡ endsU (links s)
+  pub v : take m vs ≡ endsV (links s)
+  pub w : take m ws ≡ weights (links s)
+
+-- by the promise of the walk, in arrays of zeros
+pub held : (s : List ℕ) (m : ℕ) (us vs ws : List ℕ) {r : Bool} {P : Type 0}
+    → (r ≡ valid s) × (r ≡ true → (us ≡ over (endsU (links s)) (replicate 256 0)) × (vs ≡ over (endsV (links s)) (replicate 256 0)) × (ws ≡ over (weights (links s)) (replicate 256 0)) × P)
+    → not r ≡ false → m ≡ word s countAt → Held s m us vs ws
+unfolding count
+held s m us vs ws {r} p q c =
+    let t = not-false r q in
+    let e = sym (p .0) ∙ t in
+    let a = p .1 t in
+    let k : m ≡ length (links s) = c ∙ count-links s e in
+    let f = links-survey s e .few in
+    let lu = length-endsU (links s) in
+    let lv = length-endsV (links s) in
+    let lw = length-weights (links s) in
+    let z : length {A = ℕ} (replicate 256 0) ≡ 256 = refl in
+    record {
+      is-valid = e;
+      counted = k;
+      few = omega arith;
+      room-u = rw (a .0) (omega (arith, length-over (endsU (links s)) (replicate 256 0)));
+      room-v = rw (a .1) (omega (arith, length-over (endsV (links s)) (replicate 256 0)));
+      room-w = rw (a .2) (omega (arith, length-over (weights (links s)) (replicate 256 0)));
+      u = rw (a .0) (take-over (endsU (links s)) (replicate 256 0) m (k ∙ sym lu) (omega arith));
+      v = rw (a .1) (take-over (endsV (links s)) (replicate 256 0) m (k ∙ sym lv) (omega arith));
+      w = rw (a .2) (take-over (weights (links s)) (replicate 256 0) m (k ∙ sym lw) (omega arith));
+    }
+
+-- the lent arrays after the copies
+pub read-copies : (s : List ℕ) (n m : ℕ) (us vs ws us₀ vs₀ ws₀ us₁ vs₁ ws₁ : List ℕ) → Held s m us vs ws → n ≡ byte s metersAt → us₁ ≡ over (take m us) us₀ → vs₁ ≡ over (take m vs) vs₀ → ws₁ ≡ over (take m ws) ws₀
+    → ((0 ≡ checkRefusal s) × (n ≡ readMeters s) × (m ≡ length (readLinks s)))
+    × ((us₁ ≡ over (endsU (readLinks s)) us₀) × ((vs₁ ≡ over (endsV (readLinks s)) vs₀) × ((ws₁ ≡ over (weights (readLinks s)) ws₀) × (s ≡ s))))
+unfolding meters
+read-copies s n m us vs ws us₀ vs₀ ws₀ us₁ vs₁ ws₁ h e a b c =
+    let v = h .is-valid in
+    rw (← read-all s v) ((check-yes s v, e ∙ meters-all s v, h .counted), (a ∙ rw (h .u), (b ∙ rw (h .v), (c ∙ rw (h .w), refl))))

@@ -2,8 +2,8 @@
 use Prim.Native.Nat.{ℕ, suc, _≤_}
 use mathlib.Core.Bool.{true, false, _&&_, cond}
 use mathlib.Core.Path.{_≡_, refl, sym, ap, _∙_, subst}
-use mathlib.Core.List.{List, [], _∷_, _++_}
-use lib.ListN.{length, replicate, take, drop}
+use mathlib.Core.List.{List, [], _∷_}
+use lib.ListN.{length, replicate, take}
 use lib.Dec.{eqb}
 use borrow.Author.Tests.{eq-eqb, not-false}
 use native.Mathlib.Omega.{arith}
@@ -20,7 +20,7 @@ use Rattle.site.proofs.Valid.{valid-good, links-survey}
 use Rattle.site.proofs.AddKeeps.{add-valid, add-links, add-meters, add-record}
 use Rattle.site.proofs.RemoveKeeps.{remove-valid, remove-links, remove-meters, remove-record}
 use Rattle.site.proofs.Chain.{Linked, named-low}
-use Rattle.site.proofs.Filling.{over-front, length-over}
+use Rattle.site.proofs.Filling.{length-over, take-over}
 use Rattle.site.proofs.Calls.{find-none, add-accepts, remove-accepts, read-all, meters-all}
 
 -- ---- a refused call alters nothing
@@ -118,14 +118,6 @@ remove-after-add s a b w h e =
 pub check-valid : (s : List ℕ) → checkRefusal s ≡ 0 → valid s ≡ true
 unfolding checkRefusal
 check-valid s e = not-false (valid s) (refusal-none 0 _ _ e .0)
-
-take-front : (xs ys : List ℕ) → take (length xs) (xs ++ ys) ≡ xs
-take-front [] ys = refl
-take-front (x ∷ xs) ys = ap (λ (t : List ℕ). x ∷ t) (take-front xs ys)
-
--- of an array that is long enough, the front part that read fills
-take-over : (xs d : List ℕ) (n : ℕ) → n ≡ length xs → length xs ≤ length d → take n (over xs d) ≡ xs
-take-over xs d n e h = rw (e, over-front xs d h) (take-front xs (drop (length xs) d))
 
 -- what a caller of read has in hand where it is not refused: n places of each array are there, and hold the links, a survey of m meters
 pub record ReadOut (s : List ℕ) (m n : ℕ) (us vs ws : List ℕ) : Type 0 where

@@ -1,22 +1,21 @@
--- The place of a link in the chain: laws for the loop that finds it, the chain split there, and that the record at the place tells whether the link is there. Assumes nothing.
-use Prim.Native.Nat.{ℕ, zero, suc, _-_, _≤_, _<_}
-use mathlib.Core.Bool.{Bool, true, false, _||_}
+-- The place of a link in the chain: the chain split there, that the walk of the links finds it, and that the record at the place tells whether the link is there. Assumes nothing.
+use Prim.Native.Nat.{ℕ, zero, suc, _≤_}
+use mathlib.Core.Bool.{Bool, true, false, _||_, cond, false≢true}
 use mathlib.Core.Path.{_≡_, refl, sym, ap, _∙_, subst}
 use mathlib.Core.List.{List, [], _∷_, _++_, map}
 use lib.ListN.{length, length-append}
 use borrow.Author.Tests.{ne-eqb}
 use native.Mathlib.Omega.{arith}
 use native.Mathlib.Nat.{not-suc-le-zero}
-use native.Mathlib.Numerals.{sub-one}
 use Rattle.lists.specs.Tests.{all, any}
-use Rattle.links.specs.Links.{Link, before, hasEnds, ascending, present}
+use Rattle.links.specs.Links.{Link, before, hasEnds, ascendingFrom, ascending, present}
 use Rattle.lists.proofs.Tests.{and-left, and-right, and-both}
-use Rattle.links.proofs.Order.{before-true, before-irrefl, before-else}
+use Rattle.links.proofs.Order.{before-true, before-yes, before-trans, before-irrefl, before-else}
 use Rattle.links.proofs.Altered.{ends-no, ends-not, rises-ascends, rises-sooner, rises-none}
 use Rattle.site.specs.Layout.{RECORDS, first, firstFree, next, endU, endV}
 use Rattle.site.specs.Image.{linkChain, freeChain, linkAt, links, named, times, valid}
 use Rattle.site.specs.Edits.{slot, after, goesOn, placeFrom, place}
-use Rattle.site.specs.Walks.{isLink, atPlace}
+use Rattle.site.specs.Walks.{lastBefore, isLink, atPlace}
 use Rattle.site.proofs.Chain.{Linked, named-low, named-high, linked-named, linked-once, times-cons, times-here, times-append, none-of, no-zero}
 use Rattle.site.proofs.Walked.{named-no}
 use Rattle.site.proofs.Valid.{Good, valid-good, apart, all-first, all-second}
@@ -33,35 +32,28 @@ pub after-next : (s : List ℕ) (x : ℕ) → 1 ≤ x → after s x ≡ next s x
 unfolding after slot next
 after-next s x h = rw (ne-eqb x 0 (λ e. omega arith))
 
--- ---- one turn of the loop
+-- ---- one step of the search, and the look at one record
 module _ (s : List ℕ) (a b : ℕ) where
   -- a number that names no record does not go on
-  pub goes-out : (q : ℕ) → named q ≡ false → goesOn s a b q ≡ false
+  goes-out : (q : ℕ) → named q ≡ false → goesOn s a b q ≡ false
   unfolding goesOn
   goes-out q e = rw e
 
   -- a record goes on by its ends
-  pub goes-by : (q : ℕ) (t : Bool) → named q ≡ true → t ≡ before (endU s q) (endV s q) a b → goesOn s a b q ≡ t
+  goes-by : (q : ℕ) (t : Bool) → named q ≡ true → t ≡ before (endU s q) (endV s q) a b → goesOn s a b q ≡ t
   unfolding goesOn
   goes-by q t e f = rw (e, f)
 
   -- where the record after p does not go on, the place is p
-  pub place-stop : (f p : ℕ) → goesOn s a b (after s p) ≡ false → placeFrom s a b f p ≡ p
+  place-stop : (f p : ℕ) → goesOn s a b (after s p) ≡ false → placeFrom s a b f p ≡ p
   unfolding placeFrom
   place-stop zero p e = refl
   place-stop (suc f) p e = rw e
 
   -- where it does, the search goes on from it
-  pub place-go : (f p : ℕ) → 0 < f → goesOn s a b (after s p) ≡ true → placeFrom s a b f p ≡ placeFrom s a b (f - 1) (after s p)
+  place-go : (f p : ℕ) → goesOn s a b (after s p) ≡ true → placeFrom s a b (suc f) p ≡ placeFrom s a b f (after s p)
   unfolding placeFrom
-  place-go zero p h e = absurd (not-suc-le-zero h)
-  place-go (suc f) p h e = rw (e, sub-one (suc f))
-
-  -- with no steps left the place is p
-  pub place-end : (f p : ℕ) → f ≤ 0 → placeFrom s a b f p ≡ p
-  unfolding placeFrom
-  place-end zero p h = refl
-  place-end (suc f) p h = absurd (not-suc-le-zero h)
+  place-go f p e = rw e
 
   -- a number that names no record holds no link
   pub link-out : (q : ℕ) → named q ≡ false → isLink s a b q ≡ false
@@ -116,8 +108,8 @@ module _ (s : List ℕ) (a b : ℕ) where
   place-last (x ∷ A) B zero p e t h l = absurd (not-suc-le-zero l)
   place-last (x ∷ A) B (suc f) p e t h l =
       let n = sym (after-next s x (named-low x (h .1))) in
-      place-go s a b (suc f) p (omega arith) (rw (h .0) (goes-by s a b x true (h .1) (sym (and-left (stands x) _ e))))
-      ∙ rw (sub-one (suc f), h .0) (place-last A B f x (and-right (stands x) _ e) t (subst (λ (k : ℕ). Linked s k (A ++ B)) n (h .2)) (omega arith))
+      place-go s a b f p (rw (h .0) (goes-by s a b x true (h .1) (sym (and-left (stands x) _ e))))
+      ∙ rw (h .0) (place-last A B f x (and-right (stands x) _ e) t (subst (λ (k : ℕ). Linked s k (A ++ B)) n (h .2)) (omega arith))
 
   -- what stands before (a, b) does not have these ends
   pub stands-other : (x : ℕ) → stands x ≡ true → hasEnds a b (linkAt s x) ≡ false
@@ -162,6 +154,36 @@ module _ (s : List ℕ) (a b : ℕ) where
           let k = before-else (endU s x) (endV s x) a b t (ends-not a b (linkAt s x) c) in
           rw c (sym (rises-none a b (map (linkAt s) B) (rises-sooner a b (endU s x) (endV s x) (map (linkAt s) B) k e)))
 
+-- ---- the walk that remembers the last record that stands before (a, b)
+module _ (s : List ℕ) (a b : ℕ) where
+  -- behind a record that does not, in rising order, none does
+  stops-tail : (x : ℕ) (B : List ℕ) → stands s a b x ≡ false → ascendingFrom (endU s x) (endV s x) (map (linkAt s) B) ≡ true → Stops s a b B
+  unfolding ascendingFrom stands linkAt
+  stops-tail x [] t e = tt
+  stops-tail x (y ∷ B) t e = go (stands s a b y) refl
+    where
+      go : (i : Bool) → stands s a b y ≡ i → stands s a b y ≡ false
+      go false q = q
+      go true q =
+          let k = before-true (endU s x) (endV s x) (endU s y) (endV s y) (and-left (before (endU s x) (endV s x) (endU s y) (endV s y)) _ e) in
+          absurd (false≢true (sym t ∙ before-yes (endU s x) (endV s x) a b (before-trans k (before-true (endU s y) (endV s y) a b q))))
+
+  -- one step
+  last-step : (c k x p : ℕ) (i : Bool) → k ≡ x → stands s a b x ≡ i → lastBefore s a b (suc c) k p ≡ lastBefore s a b c (next s x) (cond i x p)
+  unfolding lastBefore stands
+  last-step c k x p i h e = rw (h, ← e)
+
+  last-back : (B : List ℕ) (k p : ℕ) → Stops s a b B → ascending (map (linkAt s) B) ≡ true → Linked s k B → lastBefore s a b (length B) k p ≡ p
+  unfolding lastBefore ascending linkAt
+  last-back [] k p t e h = refl
+  last-back (x ∷ B) k p t e h = last-step (length B) k x p false (h .0) t ∙ last-back B (next s x) p (stops-tail x B t e) (rises-ascends (endU s x) (endV s x) (map (linkAt s) B) e) (h .2)
+
+  -- it ends with the last record in front
+  last-front : (A B : List ℕ) (k p : ℕ) → all (stands s a b) A ≡ true → Stops s a b B → ascending (map (linkAt s) B) ≡ true → Linked s k (A ++ B) → lastBefore s a b (length (A ++ B)) k p ≡ lastOf p A
+  unfolding all lastOf
+  last-front [] B k p e t r h = last-back B k p t r h
+  last-front (x ∷ A) B k p e t r h = last-step (length (A ++ B)) k x p true (h .0) (and-left (stands s a b x) _ e) ∙ (last-front A B (next s x) x (and-right (stands s a b x) _ e) t r (h .2))
+
 -- ---- the last record of a list
 last-high : (A : List ℕ) (p : ℕ) → all named A ≡ true → p ≤ RECORDS → lastOf p A ≤ RECORDS
 unfolding lastOf all
@@ -183,6 +205,9 @@ module _ (s : List ℕ) (a b : ℕ) (A B F : List ℕ) (g : Good s (A ++ B) F) (
   -- it is followed by what stands behind
   pub place-linked : Linked s (after s (place s a b)) B
   place-linked = rw place-at (linked-back s A B 0 (linked-first s (A ++ B) (g .links)))
+
+  place-last-before : lastBefore s a b (length (A ++ B)) (first s) 0 ≡ place s a b
+  place-last-before = last-front s a b A B (first s) 0 e t (rises-back (linkAt s) A B (g .links-rise)) (g .links) ∙ sym place-at
 
   place-tells : atPlace s a b ≡ present a b (map (linkAt s) (A ++ B))
   unfolding atPlace
@@ -221,3 +246,7 @@ module _ (s : List ℕ) (a b : ℕ) (e : valid s ≡ true) where
   -- the place is a record or 0
   pub place-fits : place s a b ≤ RECORDS
   place-fits = place-high s a b (valid-split .front) (valid-split .back) (freeChain s) split-good (valid-split .stand) (valid-split .stops)
+
+  -- the walk finds it
+  pub place-walked : (c : ℕ) → c ≡ length (linkChain s) → lastBefore s a b c (first s) 0 ≡ place s a b
+  place-walked c q = rw (q, valid-split .joined) (place-last-before s a b (valid-split .front) (valid-split .back) (freeChain s) split-good (valid-split .stand) (valid-split .stops))

@@ -6,20 +6,20 @@ use mathlib.Core.List.{List, [], _∷_, _++_, append-assoc, append-nil}
 use lib.ListN.{length, getD, set, drop, length-replicate, drop-of-length-le}
 use lib.Seq.{drop-cons, set-at}
 use lib.Dec.{leb, ltb, eqb}
-use borrow.Author.Tests.{eq-eqb, ne-eqb, le-leb}
+use borrow.Author.Tests.{eq-eqb, ne-eqb, le-leb, lt-ltb, ltb-true, ltb-false}
 use native.Mathlib.Omega.{arith}
 use native.Mathlib.Nat.{not-suc-le-zero}
 use native.Mathlib.Numerals.{add-one, sub-one}
 use Rattle.lists.specs.Tests.{every, some, all, from}
 use Rattle.links.specs.Links.{linkOk, before, hasEnds, badEnds}
-use Rattle.lists.proofs.Tests.{and-left, and-true}
+use Rattle.lists.proofs.Tests.{and-true, same-test}
+use Rattle.links.proofs.Order.{Before, less, tied, before-true, before-yes}
 use Rattle.site.specs.Layout.{SIZE, RECORDS, METERS, metersAt, recordAt, meters, first, freeAt, countAt, firstFree, count, setWord, setRecord, byte, word, endU, endV, weight, next, pad}
 use Rattle.site.specs.Image.{zeroAt, linkAt, padZero, freeOk, named, valid}
-use Rattle.site.specs.Walks.{linkFits, isLink, headOk, walkLinks, walkFree}
-use Rattle.site.proofs.Chain.{named-high}
+use Rattle.site.specs.Walks.{key, linkFits, isLink, headOk, walkLinks, walkFree}
 use Rattle.site.proofs.Walked.{checks-walks}
 use Rattle.site.proofs.Valid.{valid-checks}
-use Rattle.site.specs.Edits.{goesOn, after, slot, place, zeros, chained, addBytes, removeBytes}
+use Rattle.site.specs.Edits.{after, slot, place, zeros, chained, addBytes, removeBytes}
 
 -- ---- src/fields.rt
 
@@ -74,15 +74,27 @@ pub two-bytes : (n a b w : ℕ) → w < 65536 → linkOk n (record { u = a; v = 
 unfolding linkOk every
 two-bytes n a b w h = rw (le-leb w 65535 (omega arith), and-true (leb 1 w))
 
--- a record for the link chain, by its tests
-pub fits-test : (n c d a b w z : ℕ) {x₁ x₂ x₃ y₁ y₂ t : Bool} → w < 65536 → x₁ ≡ (leb b n && leb 1 w) → x₂ ≡ (ltb a b && x₁) → x₃ ≡ (leb 1 a && x₂) → y₁ ≡ before c d a b → y₂ ≡ (eqb z 0 && y₁) → t ≡ (x₃ && y₂)
-    → t ≡ (linkOk n (record { u = a; v = b; weight = w }) && (eqb z 0 && before c d a b))
-fits-test n c d a b w z h e f g j k l = l ∙ rw (two-bytes n a b w h, g, f, e, k, j)
+-- the order of ends is that of their keys
+pub key-before : (a b c d : ℕ) → b < 256 → d < 256 → ltb (key a b) (key c d) ≡ before a b c d
+key-before a b c d h l = same-test (ltb (key a b) (key c d)) (before a b c d) (λ e. before-yes a b c d (go (ltb a c) refl (ltb-true _ _ e))) (λ e. lt-ltb _ _ (back (before-true a b c d e)))
+  where
+    go : (t : Bool) → ltb a c ≡ t → key a b < key c d → Before a b c d
+    go true q k = less (ltb-true a c q)
+    go false q k = let i = ltb-false a c q in tied (omega arith) (omega arith)
 
--- the same of the record that was read
-pub link-test : (s : List ℕ) (n c d k a b w x z : ℕ) → {t v : Bool} → Fields s k a b w x z → t ≡ (linkOk n (record { u = a; v = b; weight = w }) && (eqb z 0 && before c d a b)) → t ≡ v → linkFits s n c d k ≡ v
+    back : Before a b c d → key a b < key c d
+    back (less i) = omega arith
+    back (tied e i) = omega arith
+
+-- a record for the link chain, by its tests
+pub fits-test : (n x a b w z y : ℕ) {x₁ x₂ x₃ y₂ t : Bool} → w < 65536 → x₁ ≡ (leb b n && leb 1 w) → x₂ ≡ (ltb a b && x₁) → x₃ ≡ (leb 1 a && x₂) → y ≡ key a b → y₂ ≡ (eqb z 0 && ltb x y) → t ≡ (x₃ && y₂)
+    → t ≡ (linkOk n (record { u = a; v = b; weight = w }) && (eqb z 0 && ltb x (key a b)))
+fits-test n x a b w z y h e f g j k l = l ∙ rw (two-bytes n a b w h, g, f, e, k, j)
+
+-- the same of the record that was read, after the link with ends c and d
+pub link-test : (s : List ℕ) (n c d y k a b w x z : ℕ) → {t v : Bool} → y ≡ key c d → d < 256 → b < 256 → Fields s k a b w x z → t ≡ (linkOk n (record { u = a; v = b; weight = w }) && (eqb z 0 && ltb y (key a b))) → t ≡ v → linkFits s n c d k ≡ v
 unfolding linkFits linkAt padZero
-link-test s n c d k a b w x z f e g = rw (← f .0, ← f .1, ← f .2, ← f .4) (sym e ∙ g)
+link-test s n c d y k a b w x z o i j f e g = rw (← f .0, ← f .1, ← f .2, ← f .4, ← key-before c d a b i j, ← o) (sym e ∙ g)
 
 -- a free record, by the tests of the record that was read
 pub free-test : (s : List ℕ) (k a b w x z : ℕ) → {t v : Bool} → Fields s k a b w x z → t ≡ (eqb a 0 && (eqb b 0 && (eqb w 0 && eqb z 0))) → t ≡ v → freeOk s k ≡ v
@@ -128,16 +140,6 @@ zeros-end i d a b =
 pub chained-turn : (s t : List ℕ) (k i : ℕ) → i ≡ slot (k + 1) → t ≡ setWord (chained k s) i (k + 1 + 1) → t ≡ chained (k + 1) s
 unfolding chained slot
 chained-turn s t k i e f = f ∙ rw (e, add-one k, ne-eqb (suc k) 0 (λ z. omega arith))
-
--- whether the search goes on, by the record that was read
-pub goes-test : (s : List ℕ) (c d k a b : ℕ) {t : Bool} → named k ≡ true → a ≡ endU s k → b ≡ endV s k → t ≡ before a b c d → t ≡ goesOn s c d k
-unfolding goesOn
-goes-test s c d k a b n e f g = rw (n, ← e, ← f) g
-
--- it goes on at records
-pub goes-within : (s : List ℕ) (a b q : ℕ) → goesOn s a b q ≡ true → q ≤ RECORDS
-unfolding goesOn
-goes-within s a b q e = named-high q (and-left (named q) _ e)
 
 -- whether a link is there, by the record that was read
 pub holds-test : (s : List ℕ) (c d k a b : ℕ) {t : Bool} → named k ≡ true → a ≡ endU s k → b ≡ endV s k → t ≡ (eqb a c && eqb b d) → t ≡ isLink s c d k

@@ -281,7 +281,7 @@ module _ (s : List ℕ) (e : valid s ≡ true) where
         rises = g .links-rise;
       }
 
-  -- "no record is free" is "256 links are there"
+  -- "no record is free" exactly where 256 links are there
   pub full-exactly : eqb (firstFree s) 0 ≡ eqb (length (links s)) RECORDS
   full-exactly = go (freeChain s) (valid-good s e)
     where

@@ -1,11 +1,12 @@
 -- One turn of each walk of `specs/Walks.antt`, by where it ends: what the loops of src/ go by. Assumes nothing.
-use Prim.Native.Nat.{ℕ, zero, suc, _-_, _≤_, _<_}
+use Prim.Native.Nat.{ℕ, zero, suc, _+_, _-_, _≤_, _<_}
 use mathlib.Core.Bool.{true, false, _&&_}
 use mathlib.Core.Path.{_≡_, refl, _∙_}
 use mathlib.Core.List.{List}
 use lib.ListN.{length}
 use lib.Dec.{eqb}
 use borrow.Author.Tests.{lt-leb, le-leb, eq-eqb, ne-eqb}
+use native.Mathlib.Omega.{arith}
 use native.Mathlib.Nat.{not-suc-le-zero}
 use native.Mathlib.Numerals.{sub-one}
 use Rattle.site.specs.Layout.{SIZE, RECORDS, meters, first, firstFree, count, endU, endV, next}
@@ -23,6 +24,16 @@ named-no k h = simp (lt-leb _ _ h)
 pub named-yes : (k : ℕ) → 1 ≤ k → k ≤ RECORDS → named k ≡ true
 unfolding named
 named-yes k h l = simp (le-leb _ _ h, le-leb _ _ l)
+
+-- ---- the steps that are left of m, after i of them
+
+-- before the last one
+pub one-less : (m i : ℕ) → i < m → m - i ≡ suc (m - (i + 1))
+one-less m i h = omega arith
+
+-- after it
+pub none-left : (m i : ℕ) → m ≤ i → m - i ≡ 0
+none-left m i h = omega arith
 
 module _ (s : List ℕ) where
   -- ---- the walk of the free records
@@ -51,28 +62,26 @@ module _ (s : List ℕ) where
 
   -- ---- the walk of the links
   module _ (n : ℕ) where
-    link-step : (c k a b : ℕ) → 0 < c → walkLinks s n c k a b ≡ (named k && (linkFits s n a b k && walkLinks s n (c - 1) (next s k) (endU s k) (endV s k)))
+    link-step : (m i k a b : ℕ) → i < m → walkLinks s n (m - i) k a b ≡ (named k && (linkFits s n a b k && walkLinks s n (m - (i + 1)) (next s k) (endU s k) (endV s k)))
     unfolding walkLinks
-    link-step zero k a b h = absurd (not-suc-le-zero h)
-    link-step (suc c) k a b h = rw (sub-one (suc c))
+    link-step m i k a b h = rw (one-less m i h)
 
     -- it fails at a number that names no record
-    pub link-out : (c k a b : ℕ) → 0 < c → named k ≡ false → walkLinks s n c k a b ≡ false
-    link-out c k a b h e = link-step c k a b h ∙ rw e
+    pub link-out : (m i k a b : ℕ) → i < m → named k ≡ false → walkLinks s n (m - i) k a b ≡ false
+    link-out m i k a b h e = link-step m i k a b h ∙ rw e
 
     -- it fails at a record that holds no fitting link
-    pub link-bad : (c k a b : ℕ) → 0 < c → named k ≡ true → linkFits s n a b k ≡ false → walkLinks s n c k a b ≡ false
-    link-bad c k a b h e f = link-step c k a b h ∙ rw (e, f)
+    pub link-bad : (m i k a b : ℕ) → i < m → named k ≡ true → linkFits s n a b k ≡ false → walkLinks s n (m - i) k a b ≡ false
+    link-bad m i k a b h e f = link-step m i k a b h ∙ rw (e, f)
 
     -- else it goes on at the next record, from this link's ends
-    pub link-on : (c k a b : ℕ) → 0 < c → named k ≡ true → linkFits s n a b k ≡ true → walkLinks s n c k a b ≡ walkLinks s n (c - 1) (next s k) (endU s k) (endV s k)
-    link-on c k a b h e f = link-step c k a b h ∙ rw (e, f)
+    pub link-on : (m i k a b : ℕ) → i < m → named k ≡ true → linkFits s n a b k ≡ true → walkLinks s n (m - i) k a b ≡ walkLinks s n (m - (i + 1)) (next s k) (endU s k) (endV s k)
+    link-on m i k a b h e f = link-step m i k a b h ∙ rw (e, f)
 
     -- with no steps left the chain must end
-    pub link-end : (c k a b : ℕ) → c ≤ 0 → walkLinks s n c k a b ≡ eqb k 0
+    pub link-end : (m i k a b : ℕ) → m ≤ i → walkLinks s n (m - i) k a b ≡ eqb k 0
     unfolding walkLinks
-    link-end zero k a b h = refl
-    link-end (suc c) k a b h = absurd (not-suc-le-zero h)
+    link-end m i k a b h = rw (none-left m i h)
 
 -- ---- the whole check
 module _ (s : List ℕ) where

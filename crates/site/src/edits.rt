@@ -1,11 +1,11 @@
-// The parts of begin, add and remove: finding a link's place, and the stores that put it in or take it out.
+// The parts of begin, add and remove: what is looked up of a link, and the stores that put it in or take it out.
 ghost use mathlib.Core.Path.{_≡_};
 ghost use Prim.Native.Nat.{_+_, _-_, _<_, _≤_};
 ghost use lib.ListN.{length};
 ghost use Rattle.links.specs.Links.{badEnds, low, high, present};
 ghost use Rattle.site.specs.Layout.{SIZE, RECORDS, freeAt, countAt, firstFree, count, setWord, setRecord};
 ghost use Rattle.site.specs.Image.{links};
-ghost use Rattle.site.specs.Edits.{zeros, chained, slot, after, goesOn, place, addBytes, removeBytes};
+ghost use Rattle.site.specs.Edits.{zeros, chained, slot, after, place, addBytes, removeBytes};
 ghost use Rattle.site.specs.Walks.{isLink, findRefusal};
 use crate::fields;
 use crate::fields::Record;
@@ -36,37 +36,7 @@ pub fn chain_records(s: &mut [u8])
     }
 }
 
-// ---- the place of a link
-
-// Whether q names a record, whose link stands before the ends (a, b).
-fn goes_on(s: &[u8], a: usize, b: usize, q: usize) -> bool
-    requires { ⌜ length (now s) ≡ SIZE ⌝ }
-    ensures { λ r. ⌜ r ≡ goesOn (now (s .entry)) a b q ⌝ }
-{
-    if !rules::names_record(q) {
-        return false;
-    }
-    let r = fields::read_record(s, q);
-    rules::is_before(r.u, r.v, a, b)
-}
-
-// The record after which the link with ends a and b stands, or is to stand; 0 for the front of the chain.
-fn find_place(s: &[u8], a: usize, b: usize) -> usize
-    requires { ⌜ length (now s) ≡ SIZE ⌝ }
-    ensures { λ r. ⌜ (r ≡ place (now (s .entry)) a b) × (r ≤ RECORDS) ⌝ }
-{
-    let mut p = 0;
-    let mut left = fields::RECORDS;
-    while 0 < left {
-        let q = fields::follower(s, p);
-        if !goes_on(s, a, b, q) {
-            return p;
-        }
-        p = q;
-        left -= 1;
-    }
-    p
-}
+// ---- what add and remove look up
 
 // Whether q names a record that holds the link with ends a and b.
 fn holds_link(s: &[u8], a: usize, b: usize, q: usize) -> bool
@@ -79,8 +49,6 @@ fn holds_link(s: &[u8], a: usize, b: usize, q: usize) -> bool
     let r = fields::read_record(s, q);
     rules::both(r.u == a, r.v == b)
 }
-
-// ---- what add and remove look up
 
 // Whether an end is 0 or above n, or both are equal.
 fn bad_ends(n: u64, a: u64, b: u64) -> bool
@@ -101,6 +69,13 @@ fn high_of(a: u64, b: u64) -> u64
     ensures { λ r. ⌜ r ≡ high a b ⌝ }
 {
     if a < b { b } else { a }
+}
+
+// An end as a number below 256. One that is not is refused, and what it is taken for does not matter.
+fn small(x: u64) -> usize
+    ensures { λ r. ⌜ (r < 256) × (x < 256 → r ≡ x) ⌝ }
+{
+    if x < 256 { x as usize } else { 0 }
 }
 
 // Where a link stands or is to stand. Where refusal is not 0, the rest says nothing.
@@ -129,21 +104,25 @@ pub fn find(image: &[u8], u: u64, v: u64) -> Found
     ensures { λ r. ⌜ r .refusal ≡ findRefusal (now (image .entry)) u v ⌝ }
     ensures { λ r. ⌜ ((r .refusal ≡ 0) → (r .u ≡ low u v) × (r .v ≡ high u v) × (r .place ≡ place (now (image .entry)) (low u v) (high u v)) × (r .present ≡ present (low u v) (high u v) (links (now (image .entry))))) ⌝ }
 {
-    if !rules::is_image(image) {
+    let a = small(low_of(u, v));
+    let b = small(high_of(u, v));
+    // The walk that tests the image finds the place too, so that it is the only one. Its arrays are of no use here.
+    let mut us = [0u8; 256];
+    let mut vs = [0u8; 256];
+    let mut ws = [0u16; 256];
+    let walk = rules::read_image(image, a, b, &mut us, &mut vs, &mut ws);
+    if !walk.ok {
         return refused(1);
     }
     if bad_ends(fields::wide(image[fields::METERS_AT]) as u64, u, v) {
         return refused(2);
     }
-    let a = low_of(u, v) as usize;
-    let b = high_of(u, v) as usize;
-    let p = find_place(image, a, b);
-    let q = fields::follower(image, p);
+    let q = fields::follower(image, walk.place);
     Found {
         refusal: 0,
         u: a,
         v: b,
-        place: p,
+        place: walk.place,
         present: holds_link(image, a, b, q),
     }
 }

@@ -91,16 +91,26 @@ pub fn read(image: &[u8], us: &mut [u8; 256], vs: &mut [u8; 256], ws: &mut [u16;
     ensures { λ _. ⌜ now (ws .exit) ≡ over (weights (readLinks (now (image .entry)))) (now (ws .entry)) ⌝ }
     ensures { λ _. ⌜ now (image .exit) ≡ now (image .entry) ⌝ }
 {
-    if !rules::is_image(image) {
+    let mut front_us = [0u8; 256];
+    let mut front_vs = [0u8; 256];
+    let mut front_ws = [0u16; 256];
+    // No place is asked for. The walk may fail after it has stored, so that its arrays are not the lent ones.
+    let walk = rules::read_image(image, 0, 0, &mut front_us, &mut front_vs, &mut front_ws);
+    if !walk.ok {
         return Reading {
             refusal: 1,
             meters: 0,
             count: 0,
         };
     }
+    let meters = fields::wide(image[fields::METERS_AT]);
+    let count = fields::read_word(image, fields::COUNT_AT);
+    arrays::copy_bytes(&front_us, count, us);
+    arrays::copy_bytes(&front_vs, count, vs);
+    arrays::copy_words(&front_ws, count, ws);
     Reading {
         refusal: 0,
-        meters: fields::wide(image[fields::METERS_AT]),
-        count: arrays::read_links(image, us, vs, ws),
+        meters: meters,
+        count: count,
     }
 }

@@ -1,9 +1,9 @@
 -- Lists filled entry by entry: the choices of a plan's code. Assumes nothing.
-use Prim.Native.Nat.{ℕ, suc, _+_, _-_, _*_, _<_}
+use Prim.Native.Nat.{ℕ, zero, suc, _+_, _-_, _*_, _≤_, _<_}
 use mathlib.Core.Path.{_≡_, refl, sym, ap, ap₂, _∙_}
 use mathlib.Core.List.{List, [], _∷_, _++_, map, append-assoc, append-nil}
-use lib.ListN.{length, set, take, length-set, length-map}
-use lib.Seq.{take-suc-set, take-all}
+use lib.ListN.{length, getD, set, take, length-append, length-set, length-map}
+use lib.Seq.{take-suc-set, take-all, take-append-seam}
 use native.Mathlib.Omega.{arith}
 use native.Mathlib.Numerals.{add-one}
 use borrow.Author.Tests.{eq-eqb, ne-eqb}
@@ -11,7 +11,8 @@ use Rattle.lists.specs.Sums.{same, nth}
 use Rattle.lists.proofs.Sums.{same-yes, same-one}
 use Rattle.links.specs.Links.{Link, linksOf}
 use Rattle.qubo.specs.Terms.{each}
-use Rattle.onehot.proofs.Codes.{each-length, filled-end}
+use Rattle.onehot.proofs.Codes.{each-length, each-at, filled-end}
+use Rattle.onehot.proofs.Parts.{one-less}
 use Rattle.spanning.specs.Parents.{depthOf, neighbours}
 use Rattle.spanning.specs.declared.Depth.{Depth}
 use Rattle.spanning.specs.declared.Depth.the-variants.{At, Ring}
@@ -35,7 +36,37 @@ pub counts-filled : (p : List ℕ) (N : ℕ) (l : List ℕ) (v : ℕ) → v ≡ 
 unfolding countChoices
 counts-filled p N l v d s e = filled-end (neighbours N p) N l v d s e
 
+-- as many depth bits as meters
+pub depths-length : (N : ℕ) (p : List ℕ) → length (depthChoices N p) ≡ N
+unfolding depthChoices
+depths-length N p = each-length N (λ v. bitOfDepth (depthOf p N v))
+
 -- ---- arc_choice
+
+-- the bits of all depths, lent by themselves
+module _ (N : ℕ) (p l : List ℕ) (e : l ≡ depthChoices N p) where
+  pub lent-length : length l ≡ N
+  lent-length = ap length e ∙ depths-length N p
+
+  -- that of the meter after index k, and of meter v
+  pub lent-next : (k : ℕ) → k < N → getD l k 0 ≡ bitOfDepth (depthOf p N (suc k))
+  unfolding depthChoices
+  lent-next k h = rw e (each-at N (λ v. bitOfDepth (depthOf p N v)) k h)
+
+  pub lent-at : (v : ℕ) → 1 ≤ v → v ≤ N → getD l (v - 1) 0 ≡ bitOfDepth (depthOf p N v)
+  lent-at zero a b = absurd (omega arith)
+  lent-at (suc k) a b = rw (one-less k) (lent-next k b)
+
+  -- or as the front of an array
+  module _ (r : List ℕ) where
+    pub front-room : N ≤ length (l ++ r)
+    front-room = rw length-append (omega (arith, lent-length))
+
+    pub front-is : take N (l ++ r) ≡ depthChoices N p
+    front-is = ap (λ k. take k (l ++ r)) (sym lent-length) ∙ take-append-seam l r ∙ e
+
+    pub front-length : N ≡ length (take N (l ++ r))
+    front-length = sym (ap length front-is ∙ depths-length N p)
 
 -- the depth bits are numbered from depth 0, an arc's from depth 1
 bit-arc : (o : Depth) → bitOfDepth o - 1 ≡ arcDepth o
@@ -94,10 +125,6 @@ module _ (us vs ws : List ℕ) (f : Arc → ℕ) where
       ∙ a .whole
 
 -- ---- as many choices as meters or arcs
-
-pub depths-length : (N : ℕ) (p : List ℕ) → length (depthChoices N p) ≡ N
-unfolding depthChoices
-depths-length N p = each-length N (λ v. bitOfDepth (depthOf p N v))
 
 pub counts-length : (N : ℕ) (p : List ℕ) → length (countChoices N p) ≡ N
 unfolding countChoices

@@ -15,9 +15,9 @@ pub mod Bound
 pub mod AnyPenalty
 pub mod Demands
 pub mod RowParts
+pub mod Filling
 pub mod ParentLinks
 pub mod PlanTest
-pub mod Filling
 pub mod Placing
 pub mod ReadParents
 pub mod Answering

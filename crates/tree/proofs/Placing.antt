@@ -173,3 +173,15 @@ module _ (N d M : ℕ) (ls : List Link) (p : List ℕ) (count : length ls ≡ M)
 
       all : placed (N * (N / 2 + 1) + 2 * M * (N / 2)) (code d (countChoices (length p) p)) (placed (N * (N / 2 + 1)) (code (N / 2) (arcChoices N ls p)) (placed 0 (code (N / 2 + 1) (depthChoices N p)) x₀)) ≡ code (N / 2 + 1) (depthChoices N p) ++ code (N / 2) (arcChoices N ls p) ++ code d (countChoices (length p) p)
       all = placed-all (code (N / 2 + 1) (depthChoices N p)) (code (N / 2) (arcChoices N ls p)) (code d (countChoices (length p) p)) x₀ (N * (N / 2 + 1)) (N * (N / 2 + 1) + 2 * M * (N / 2)) (sym a) (omega (arith, a, b)) (omega (arith, a, b, g, bits-are N M d (length x₀) e))
+
+-- ---- encode_plan
+
+-- t is what the test of a plan said
+module _ (N d : ℕ) (ls : List Link) (p : List ℕ) (t : Bool) (is : t ≡ isPlan N d ls p) where
+  -- no plan: the bits are as they were
+  pub coded-none : t ≡ false → (bits : List ℕ) → (false ≡ isPlan N d ls p) × (bits ≡ cond (isPlan N d ls p) (codeOf N d ls p) bits)
+  coded-none n bits = let e : isPlan N d ls p ≡ false = sym is ∙ n in rw e (refl, refl)
+
+  -- a plan: they are its code
+  pub coded-plan : t ≡ true → (bits x : List ℕ) → x ≡ codeOf N d ls p → (true ≡ isPlan N d ls p) × (x ≡ cond (isPlan N d ls p) (codeOf N d ls p) bits)
+  coded-plan y bits x h = let e : isPlan N d ls p ≡ true = sym is ∙ y in rw e (refl, h)

@@ -1,26 +1,29 @@
 -- Laws that the proofs of src/plans.rt cite: each test of a plan, and all of them together. Assumes nothing.
-use Prim.Native.Nat.{ℕ, _+_, _-_, _/_, _≤_, _<_}
+use Prim.Native.Nat.{ℕ, suc, _+_, _-_, _/_, _≤_, _<_}
 use mathlib.Core.Path.{_≡_, refl, sym, ap, ap₂, _∙_}
-use mathlib.Core.Bool.{Bool, true, false}
+use mathlib.Core.Bool.{Bool, true, false, _&&_}
 use mathlib.Core.List.{List}
 use lib.ListN.{length, getD}
 use lib.Dec.{leb}
 use native.Mathlib.Omega.{arith}
 use native.Mathlib.Numerals.{add-one}
+use native.Mathlib.Decide.{ℕ-discrete}
 use borrow.Author.Tests.{eq-eqb, ne-eqb, le-leb, lt-leb}
 use Rattle.lists.specs.Tests.{every, all, from}
 use Rattle.lists.specs.Sums.{sumTo, sumOf, same, nth}
-use Rattle.lists.proofs.Tests.{from-all, from-not}
-use Rattle.lists.proofs.Sums.{differ-yes, differ-no}
-use Rattle.links.specs.Links.{Link, linkIn, linksOf}
-use Rattle.links.specs.Survey.{Survey}
-use Rattle.links.proofs.Walk.{Summed, summed-turn, summed-end}
+use Rattle.lists.proofs.Tests.{and-true, from-all, from-not}
+use Rattle.lists.proofs.Sums.{same-yes, same-no, same-one, differ-yes, differ-no}
+use Rattle.links.specs.Links.{Link, total, linkIn, linksOf}
+use Rattle.links.specs.Survey.{Survey, Arrays}
+use Rattle.links.proofs.Walk.{link-at, Summed, summed-turn, summed-end}
 use Rattle.onehot.proofs.Counts.{count-le}
-use Rattle.spanning.specs.Parents.{deepest, depthOf, atMost, parentLinked, rootsOf, isRooted, neighbours}
+use Rattle.spanning.specs.Parents.{deepest, depthOf, atMost, parentLinked, rootsOf, isRooted, neighbours, isUsed}
 use Rattle.spanning.specs.declared.Depth.{Depth}
 use Rattle.spanning.specs.declared.Depth.the-variants.{At, Ring}
-use Rattle.tree.specs.Plans.{bitOfDepth, fewNeighbours, isPlan}
-use Rattle.tree.specs.Stores.{Counted}
+use Rattle.spanning.proofs.Counting.{used-sum}
+use Rattle.tree.specs.Plans.{bitOfDepth, depthChoices, fewNeighbours, isPlan, treeWeight}
+use Rattle.tree.specs.Stores.{Counted, Ends, usedWeight}
+use Rattle.tree.proofs.Filling.{lent-next, lent-at}
 use Rattle.tree.proofs.ParentLinks.{joining, all-linked}
 
 -- ---- parent_links
@@ -28,6 +31,10 @@ use Rattle.tree.proofs.ParentLinks.{joining, all-linked}
 -- the links before k that join a meter to its parent are counted, whatever the weights are
 abbrev pub Joined : List ℕ → List ℕ → List ℕ → ℕ → ℕ → Type 0
 Joined p us vs k count = (ws : List ℕ) → Summed us vs ws (joining p) k count
+
+-- the ends of a site's links are meters of a plan as long as there are meters
+pub ends-plan : (N : ℕ) (us vs ws : List ℕ) → Arrays N us vs ws → (p : List ℕ) → length p ≡ N → Ends (length p) us vs
+ends-plan N us vs ws a p e k h = let f = link-at N us vs ws a k h in (f .0, f .1, omega (arith, f))
 
 module _ (p us vs : List ℕ) (k count : ℕ) (s : Joined p us vs k count) where
   -- a turn counts the link at k
@@ -39,6 +46,30 @@ module _ (p us vs : List ℕ) (k count : ℕ) (s : Joined p us vs k count) where
   pub joined-end : length us ≤ k → (ws : List ℕ) → count ≡ sumOf (linksOf us vs ws) (λ l. same (nth p (l .u)) (l .v) + same (nth p (l .v)) (l .u))
   unfolding joining
   joined-end h ws = summed-end us vs ws (joining p) k count (s ws) h
+
+-- ---- weight_used and tree_weight
+
+-- up and down tell for which of the ends u and v of a link the other is the parent
+module _ (p : List ℕ) (u v w up down : ℕ) (e : up ≡ same (nth p u) v) (f : down ≡ same (nth p v) u) (l : Link) (eu : l .u ≡ u) (ev : l .v ≡ v) (ew : l .weight ≡ w) where
+  -- for none
+  pub weight-none : up + down ≡ 0 → 0 ≡ usedWeight p l
+  unfolding usedWeight isUsed
+  weight-none z = rw (eu, ev, ne-eqb (nth p u) v (λ q. let w : ⊥ = omega (arith, same-yes (nth p u) v q) in w), ne-eqb (nth p v) u (λ q. let w : ⊥ = omega (arith, same-yes (nth p v) u q) in w)) refl
+
+  -- for one: the weight counts
+  pub weight-some : (up + down ≡ 0 → ⊥) → w ≡ usedWeight p l
+  unfolding usedWeight isUsed
+  weight-some n =
+      rw (eu, ev, ew)
+      (elim (ℕ-discrete (nth p u) v) [
+        | yes q ↦ rw (eq-eqb (nth p u) v q) refl
+        | no q ↦ rw (ne-eqb (nth p u) v q, eq-eqb (nth p v) u (same-one (nth p v) u (omega (arith, n, same-no (nth p u) v q)))) refl
+      ])
+
+-- in the end all links are weighed
+pub weighed-end : (p us vs ws : List ℕ) (k sum : ℕ) → Summed us vs ws (usedWeight p) k sum → length us ≤ k → sum ≡ treeWeight (linksOf us vs ws) p
+unfolding treeWeight total usedWeight
+weighed-end p us vs ws k sum s h = summed-end us vs ws (usedWeight p) k sum s h ∙ sym (used-sum p (λ l. l .weight) (linksOf us vs ws))
 
 -- ---- depth_bit and depths_within
 
@@ -68,24 +99,30 @@ unfolding atMost
 depth-none D (At h) e = absurd (let z : ⊥ = omega arith in z)
 depth-none D Ring e = refl
 
--- the bit of meter v's depth is one of 1..D+1
+-- entry k of the bits l of all depths is one of 1..D+1
 abbrev pub DepthIn : List ℕ → ℕ → ℕ → Type 0
-DepthIn p N v = (bitOfDepth (depthOf p N v) ≡ 0 → ⊥) × (bitOfDepth (depthOf p N v) ≤ N / 2 + 1)
+DepthIn l N k = (getD l k 0 ≡ 0 → ⊥) × (getD l k 0 ≤ N / 2 + 1)
 
-module _ (p : List ℕ) (N : ℕ) where
+module _ (N : ℕ) (p l : List ℕ) (e : l ≡ depthChoices N p) where
   -- a meter in a ring fails the test
-  pub depths-ring : (v : ℕ) → 1 ≤ v → v ≤ N → bitOfDepth (depthOf p N v) ≡ 0 → false ≡ all (λ u. atMost (deepest N) (depthOf p N u)) (from 1 N)
-  depths-ring v l h e = sym (from-not (λ u. atMost (deepest N) (depthOf p N u)) 1 N v l (omega arith) (depth-none (deepest N) (depthOf p N v) e))
+  pub depths-ring : (k : ℕ) → k < N → getD l k 0 ≡ 0 → false ≡ all (λ v. atMost (deepest N) (depthOf p N v)) (from 1 N)
+  depths-ring k h z = sym (from-not (λ v. atMost (deepest N) (depthOf p N v)) 1 N (suc k) (omega arith) (omega arith) (depth-none (deepest N) (depthOf p N (suc k)) (sym (lent-next N p l e k h) ∙ z)))
 
   -- so does one that is too deep
-  pub depths-over : (v : ℕ) → 1 ≤ v → v ≤ N → (bitOfDepth (depthOf p N v) ≡ 0 → ⊥) → N / 2 + 1 < bitOfDepth (depthOf p N v) → false ≡ all (λ u. atMost (deepest N) (depthOf p N u)) (from 1 N)
+  pub depths-over : (k : ℕ) → k < N → (getD l k 0 ≡ 0 → ⊥) → N / 2 + 1 < getD l k 0 → false ≡ all (λ v. atMost (deepest N) (depthOf p N v)) (from 1 N)
   unfolding deepest
-  depths-over v l h n e = sym (from-not (λ u. atMost (deepest N) (depthOf p N u)) 1 N v l (omega arith) (depth-no (deepest N) (depthOf p N v) n e))
+  depths-over k h n g =
+      let b = lent-next N p l e k h in
+      sym (from-not (λ v. atMost (deepest N) (depthOf p N v)) 1 N (suc k) (omega arith) (omega arith) (depth-no (deepest N) (depthOf p N (suc k)) (λ z. n (b ∙ z)) (omega (arith, b))))
 
   -- with no such meter it holds
-  pub depths-yes : (v : ℕ) → v ≡ N → ((u : ℕ) → 1 ≤ u → u ≤ v → DepthIn p N u) → true ≡ all (λ u. atMost (deepest N) (depthOf p N u)) (from 1 N)
+  pub depths-yes : (k : ℕ) → k ≡ N → ((i : ℕ) → i < k → DepthIn l N i) → true ≡ all (λ v. atMost (deepest N) (depthOf p N v)) (from 1 N)
   unfolding deepest
-  depths-yes v e h = sym (from-all (λ u. atMost (deepest N) (depthOf p N u)) 1 N (λ u a b. depth-yes (deepest N) (depthOf p N u) (h u a (omega arith) .0) (h u a (omega arith) .1)))
+  depths-yes k m h =
+      sym (from-all (λ v. atMost (deepest N) (depthOf p N v)) 1 N (λ v a g.
+      let b = lent-at N p l e v a (omega arith) in
+      let i = h (v - 1) (omega arith) in
+      depth-yes (deepest N) (depthOf p N v) (λ z. i .0 (b ∙ z)) (omega (arith, b, i .1))))
 
 -- ---- neighbours_at and within_limit
 
@@ -122,6 +159,11 @@ pub refuted : (t : Bool) → (t ≡ true → ⊥) → t ≡ false
 refuted true h = absurd (h refl)
 refuted false h = refl
 
+-- nothing holds together with what is false
+and-false : (t : Bool) → (t && false) ≡ false
+and-false true = refl
+and-false false = refl
+
 -- the roots are those meters whose parent is 0
 module _ (N : ℕ) (p : List ℕ) (roots : ℕ) (size : length p ≡ N) (are : roots ≡ sumTo (length p) (λ v. same (nth p v) 0)) where
   roots-are : rootsOf N p ≡ roots
@@ -146,6 +188,11 @@ module _ (N d : ℕ) (ls : List Link) (p : List ℕ) where
     unfolding isPlan isRooted every
     plan-root h = rw (eq-eqb (length p) N size, ne-eqb (rootsOf N p) 1 h) refl
 
+    -- a meter with too many neighbours
+    pub plan-crowded : fewNeighbours (length p) d p ≡ false → false ≡ isPlan N d ls p
+    unfolding isPlan
+    plan-crowded f = let g : fewNeighbours N d p ≡ false = rw (← size) f in rw (g, and-false) refl
+
     module _ (root : rootsOf N p ≡ 1) (s : Survey N ls) (joined : ℕ) (are : joined ≡ sumOf ls (λ l. same (nth p (l .u)) (l .v) + same (nth p (l .v)) (l .u))) where
       -- a parent that is no linked neighbour
       pub plan-unlinked : (joined ≡ N - 1 → ⊥) → false ≡ isPlan N d ls p
@@ -160,12 +207,12 @@ module _ (N d : ℕ) (ls : List Link) (p : List ℕ) where
         unfolding joining
         links-yes = all-linked p N ls s .1 (omega (arith, s .meters-low))
 
-        -- a depth over D, or a ring
-        pub plan-deep : all (λ v. atMost (deepest N) (depthOf p N v)) (from 1 N) ≡ false → false ≡ isPlan N d ls p
-        unfolding isPlan isRooted every
-        plan-deep e = rw (eq-eqb (length p) N size, eq-eqb (rootsOf N p) 1 root, links-yes, e) refl
+        -- so the depths decide whether it is rooted
+        rooted-is : isRooted N (deepest N) ls p ≡ all (λ v. atMost (deepest N) (depthOf p N v)) (from 1 N)
+        unfolding isRooted every
+        rooted-is = rw (eq-eqb (length p) N size, eq-eqb (rootsOf N p) 1 root, links-yes, and-true) refl
 
-        -- past these tests the neighbours decide
-        pub plan-is : all (λ v. atMost (deepest N) (depthOf p N v)) (from 1 N) ≡ true → (r : Bool) → r ≡ fewNeighbours (length p) d p → r ≡ isPlan N d ls p
-        unfolding isPlan isRooted every
-        plan-is e r f = rw (eq-eqb (length p) N size, eq-eqb (rootsOf N p) 1 root, links-yes, e, ← size) f
+        -- and with no meter that has too many neighbours, whether it is a plan
+        pub plan-is : fewNeighbours (length p) d p ≡ true → (r : Bool) → r ≡ all (λ v. atMost (deepest N) (depthOf p N v)) (from 1 N) → r ≡ isPlan N d ls p
+        unfolding isPlan
+        plan-is f r e = let g : fewNeighbours N d p ≡ true = rw (← size) f in rw (rooted-is, g, and-true) e

@@ -9,8 +9,8 @@ use native.Mathlib.Decide.{ℕ-discrete, decLt}
 use native.Mathlib.Numerals.{add-one}
 use native.Mathlib.Nat.{mul-le-mul, mul-le-mul-left, mul-le-mul-right, add-le-add, add-mul, suc-mul, zero-mul, one-mul}
 use Rattle.lists.specs.Sums.{sumTo, sumOf, same, nth}
-use Rattle.lists.proofs.Sums.{same-yes, same-no, sumOf-times, nth-index, nth-suc}
-use Rattle.lists.proofs.Stores.{added-here, added-elsewhere}
+use Rattle.lists.proofs.Sums.{same-yes, same-no, sumOf-times, nth-index, nth-suc, sumTo-eq, sumTo-split}
+use Rattle.lists.proofs.Stores.{added-here, added-elsewhere, added-same}
 use Rattle.links.specs.Links.{linksOf}
 use Rattle.links.specs.Survey.{Arrays}
 use Rattle.links.proofs.Walk.{arrays-few}
@@ -64,6 +64,37 @@ module _ (p q : List ℕ) (c n : ℕ) (low : 1 ≤ c) (high : c ≤ length p) (e
 
   nth-else : (v : ℕ) → 1 ≤ v → (c ≡ v → ⊥) → nth q v ≡ nth p v
   nth-else v h d = rw (nth-index q v h, nth-index p v h) (added-elsewhere p q (c - 1) n is-set (v - 1) (omega arith))
+
+-- ---- read_link: the bits of two arcs, one behind the other
+
+-- a part of both is the first and then the second
+pub link-set : (x : List ℕ) (k D : ℕ) → k + D + D ≤ length x → sumTo (length (slice x k (k + D + D))) (nth (slice x k (k + D + D))) ≡ setFrom x k D + setFrom x (k + D) D
+unfolding setFrom
+link-set x k D h =
+    slice-sum x k (k + D + D) (D + D) (omega arith) h
+    ∙ sumTo-split D D (λ i. getD x (k + pred i) 0)
+    ∙ ap (λ t. sumTo D (λ i. getD x (k + pred i) 0) + t) (sumTo-eq D (λ i. getD x (k + pred (D + i)) 0) (λ i. getD x (k + D + pred i) 0) behind)
+  where
+    behind : (i : ℕ) → 1 ≤ i → i ≤ D → getD x (k + pred (D + i)) 0 ≡ getD x (k + D + pred i) 0
+    behind zero a b = absurd (omega arith)
+    behind (suc j) a b = let e : D + suc j ≡ suc (D + j) = omega arith in rw e (ap (λ t. getD x t 0) (let f : k + (D + j) ≡ k + D + j = omega arith in f))
+
+-- nothing added
+added-none : (p : List ℕ) (v : ℕ) → 1 ≤ v → v ≤ length p → p ≡ added v 0 p
+added-none p v l h =
+    ext-getD 0 p (added v 0 p) (sym (added-size p (added v 0 p) v 0 l h refl))
+    (λ j b. sym (rw (added-same p (added v 0 p) (v - 1) 0 (is-set p (added v 0 p) v 0 l h refl) (omega arith) j, zero-mul) (omega arith)))
+
+-- where no bit of both is set, nothing is added
+pub link-none : (x p : List ℕ) (k D u v : ℕ) → 1 ≤ u → u < v → v ≤ length p → setFrom x k D + setFrom x (k + D) D ≡ 0 → p ≡ added u (setFrom x (k + D) D * v) (added v (setFrom x k D * u) p)
+link-none x p k D u v l o h z =
+    let a : setFrom x k D ≡ 0 = omega arith in
+    let b : setFrom x (k + D) D ≡ 0 = omega arith in
+    rw (a, b, zero-mul v, zero-mul u) (added-none p u l (omega arith) ∙ ap (added u 0) (added-none p v (omega arith) h))
+
+-- the entries with the first arc read
+pub read-small : (q r : List ℕ) → q ≡ r → ((k : ℕ) → getD r k 0 ≤ 48) → (k : ℕ) → getD q k 0 ≤ 48
+read-small q r e h = rw e h
 
 -- ---- read_parents
 
@@ -145,7 +176,7 @@ module _ (N D : ℕ) (us vs ws x : List ℕ) (r : Readable N D us vs ws x) where
     own-set = rw at refl
 
     -- what read_arc asks of the bits
-    pub arc-asks : a .number < 2 * length us → Bits x × (D ≤ 24) × (k + D ≤ length x) × (setFrom x k D ≤ 1)
+    arc-asks : a .number < 2 * length us → Bits x × (D ≤ 24) × (k + D ≤ length x) × (setFrom x k D ≤ 1)
     unfolding sumOf
     arc-asks h = (
       r .bits,
@@ -158,7 +189,7 @@ module _ (N D : ℕ) (us vs ws x : List ℕ) (r : Readable N D us vs ws x) where
         once = rw (same-yes (a .child) (a .child) refl, one-mul) refl
 
     -- reading it leaves the other arcs
-    pub arc-turn : (q : List ℕ) → q ≡ added (a .child) (setFrom x k D * a .parent) p → ReadTo N D us vs ws x left q
+    arc-turn : (q : List ℕ) → q ≡ added (a .child) (setFrom x k D * a .parent) p → ReadTo N D us vs ws x left q
     unfolding sumOf
     arc-turn q e = record { size = added-size p q (a .child) _ (o .child-low) fits e ∙ i .size; among = λ f. omega (arith, i .among f); whole = whole }
       where
@@ -205,15 +236,26 @@ module _ (N D : ℕ) (us vs ws x : List ℕ) (r : Readable N D us vs ws x) where
       both-left : ReadTo N D us vs ws x (arcUp us vs ws k ∷ arcBack us vs ws k ∷ arcsLeft us vs ws (k + 1)) p
       both-left = rw (arcs-turn us vs ws k h) at i
 
-      pub first-asks : Bits x × (D ≤ 24) × (N * (D + 1) + 2 * k * D + D ≤ length x) × (setFrom x (N * (D + 1) + 2 * k * D) D ≤ 1)
-      first-asks = arc-asks (arcUp us vs ws k) _ p both-left up-of (N * (D + 1) + 2 * k * D) first-at (omega arith)
+      -- the first read, the second is left
+      firstRead : List ℕ
+      firstRead = added (getD vs k 0) (setFrom x (N * (D + 1) + 2 * k * D) D * getD us k 0) p
 
-      pub first-turn : (q : List ℕ) → q ≡ added (getD vs k 0) (setFrom x (N * (D + 1) + 2 * k * D) D * getD us k 0) p → ReadTo N D us vs ws x (arcBack us vs ws k ∷ arcsLeft us vs ws (k + 1)) q
-      first-turn = arc-turn (arcUp us vs ws k) _ p both-left up-of (N * (D + 1) + 2 * k * D) first-at
+      second-left : ReadTo N D us vs ws x (arcBack us vs ws k ∷ arcsLeft us vs ws (k + 1)) firstRead
+      unfolding firstRead
+      second-left = arc-turn (arcUp us vs ws k) _ p both-left up-of (N * (D + 1) + 2 * k * D) first-at firstRead refl
 
-    module _ (p : List ℕ) (i : ReadTo N D us vs ws x (arcBack us vs ws k ∷ arcsLeft us vs ws (k + 1)) p) where
-      pub second-asks : Bits x × (D ≤ 24) × (N * (D + 1) + 2 * k * D + D + D ≤ length x) × (setFrom x (N * (D + 1) + 2 * k * D + D) D ≤ 1)
-      second-asks = arc-asks (arcBack us vs ws k) _ p i back-of (N * (D + 1) + 2 * k * D + D) second-at (omega arith)
+      -- what read_link asks of the bits and of the plan
+      pub link-asks : Bits x × (D ≤ 24) × (N * (D + 1) + 2 * k * D + D + D ≤ length x) × (setFrom x (N * (D + 1) + 2 * k * D) D ≤ 1) × (setFrom x (N * (D + 1) + 2 * k * D + D) D ≤ 1)
+      link-asks =
+          let a = arc-asks (arcUp us vs ws k) _ p both-left up-of (N * (D + 1) + 2 * k * D) first-at (omega arith) in
+          let b = arc-asks (arcBack us vs ws k) _ firstRead second-left back-of (N * (D + 1) + 2 * k * D + D) second-at (omega arith) in
+          (r .bits, r .deep, b .2, a .3, b .3)
 
-      pub second-turn : (q : List ℕ) → q ≡ added (getD us k 0) (setFrom x (N * (D + 1) + 2 * k * D + D) D * getD vs k 0) p → ReadTo N D us vs ws x (arcsLeft us vs ws (k + 1)) q
-      second-turn = arc-turn (arcBack us vs ws k) _ p i back-of (N * (D + 1) + 2 * k * D + D) second-at
+      pub link-small : (j : ℕ) → getD (added (getD vs k 0) (setFrom x (N * (D + 1) + 2 * k * D) D * getD us k 0) p) j 0 ≤ 48
+      unfolding firstRead
+      link-small = entries-small _ firstRead second-left
+
+      -- reading both leaves those of the links behind k
+      pub link-turn : (q : List ℕ) → q ≡ added (getD us k 0) (setFrom x (N * (D + 1) + 2 * k * D + D) D * getD vs k 0) (added (getD vs k 0) (setFrom x (N * (D + 1) + 2 * k * D) D * getD us k 0) p) → ReadTo N D us vs ws x (arcsLeft us vs ws (k + 1)) q
+      unfolding firstRead
+      link-turn = arc-turn (arcBack us vs ws k) _ firstRead second-left back-of (N * (D + 1) + 2 * k * D + D) second-at

@@ -3,6 +3,7 @@ use Prim.Native.Nat.{ℕ, _≤_}
 use mathlib.Core.List.{List}
 use Rattle.links.specs.Survey.{Arrays}
 
+-- the arrays of an accepted site of at least two meters, and d from 1 to 47
 pub record Lent (N d : ℕ) (us vs ws : List ℕ) : Type 0 where
   pub arrays : Arrays N us vs ws
   pub meters : 2 ≤ N

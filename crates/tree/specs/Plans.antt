@@ -45,6 +45,7 @@ depthChoices N p = each N (λ v. bitOfDepth (depthOf p N v))
 unfoldable pub arcChoice : ℕ → List ℕ → Arc → ℕ
 arcChoice N p a = cond (eqb (nth p (a .child)) (a .parent)) (arcDepth (depthOf p N (a .child))) 0
 
+-- for each arc
 unfoldable pub arcChoices : ℕ → List Link → List ℕ → List ℕ
 arcChoices N ls p = map (arcChoice N p) (arcs ls)
 

@@ -13,46 +13,33 @@ ghost use Rattle.arcs.specs.Arcs.{Arc, arcs, arcsEnd, arcAt};
 ghost use Rattle.tree.specs.Formula.{bitCount};
 ghost use Rattle.tree.specs.Plans.{depthChoices, arcChoice, arcChoices, countChoices, isPlan, codeOf};
 ghost use Rattle.tree.specs.Decoding.{candidateTo};
-ghost use Rattle.tree.specs.Stores.{Counted, placed, setFrom, added};
+ghost use Rattle.tree.specs.Stores.{Counted, Ends, placed, setFrom, added};
 
-// Which of its depth bits each meter has set.
-fn fill_depths(choices: &mut [u8], plan: &[u8], meters: usize)
-    requires { ⌜ (meters ≤ 48) × (length (now choices) ≡ meters) ⌝ }
-    ensures { λ _. ⌜ now (choices .exit) ≡ depthChoices meters (now (plan .entry)) ⌝ }
-{
-    let mut v: usize = 0;
-    while v < meters {
-        let b = crate::plans::depth_bit(plan, v + 1, meters);
-        choices[v] = b as u8;
-        v += 1;
-    }
-}
-
-// Which of its bits the arc from u to v has set, from 1: that of the depth of v where u is its parent, else none.
-fn arc_choice(plan: &[u8], u: u8, v: u8, meters: usize) -> u8
-    requires { ⌜ meters ≤ 48 ⌝ }
+// Which of its bits the arc from u to v has set, from 1: that of the depth of v where u is its parent, else none. Depths are found once for each meter, so their bits are lent.
+fn arc_choice(plan: &[u8], depths: &[u8], u: u8, v: u8, meters: usize) -> u8
+    requires { ⌜ (1 ≤ u) × (u ≤ meters) × (1 ≤ v) × (v ≤ meters) × (now depths ≡ depthChoices meters (now plan)) × (length (now plan) ≡ meters) ⌝ }
     ensures { λ r. ⌜ ((a : Arc) → a .parent ≡ u → a .child ≡ v → r ≡ arcChoice meters (now (plan .entry)) a) ⌝ }
 {
     if crate::plans::is_parent(plan, u, v) == 0 {
         return 0;
     }
-    let b = crate::plans::depth_bit(plan, v as usize, meters);
+    let b = depths[(v as usize) - 1];
     if b == 0 {
         return 0;
     }
-    (b - 1) as u8
+    b - 1
 }
 
 // Which of its bits each arc has set, whatever the weights are: for each link that of u to v, then that of v to u.
-fn fill_arcs(choices: &mut [u8], plan: &[u8], us: &[u8], vs: &[u8], meters: usize)
-    requires { ⌜ (meters ≤ 48) × (length (now vs) ≡ length (now us)) × (length (now us) ≤ 256) × (length (now choices) ≡ 2 * length (now us)) ⌝ }
+fn fill_arcs(choices: &mut [u8], plan: &[u8], depths: &[u8], us: &[u8], vs: &[u8], meters: usize)
+    requires { ⌜ (now depths ≡ depthChoices meters (now plan)) × Ends meters (now us) (now vs) × (length (now vs) ≡ length (now us)) × (length (now us) ≤ 256) × (length (now choices) ≡ 2 * length (now us)) × (length (now plan) ≡ meters) ⌝ }
     ensures { λ _. ⌜ ((ws : List ℕ) → now (choices .exit) ≡ arcChoices meters (linksOf (now (us .entry)) (now (vs .entry)) ws) (now (plan .entry))) ⌝ }
 {
     let mut k: usize = 0;
     while k < us.len() {
         let at = 2 * k;
-        choices[at] = arc_choice(plan, us[k], vs[k], meters);
-        choices[at + 1] = arc_choice(plan, vs[k], us[k], meters);
+        choices[at] = arc_choice(plan, depths, us[k], vs[k], meters);
+        choices[at + 1] = arc_choice(plan, depths, vs[k], us[k], meters);
         k += 1;
     }
 }
@@ -79,20 +66,11 @@ fn encode_part(choices: &[u8], n: usize, start: usize, bits: &mut [u8])
     onehot::encode(choices, choices.len(), n, &mut bits[start..end]);
 }
 
-// The first part of the code: the depths, n bits for each meter.
-fn code_depths(choices: &mut [u8], plan: &[u8], meters: usize, n: usize, bits: &mut [u8])
-    requires { ⌜ (meters ≤ 48) × (length (now choices) ≡ meters) × ((v : ℕ) → v < meters → getD (depthChoices meters (now plan)) v 0 ≤ n) × (meters * n ≤ length (now bits)) ⌝ }
-    ensures choices { λ _. ⌜ now (choices .exit) ≡ depthChoices meters (now (plan .entry)) ⌝ }
-    ensures bits { λ _. ⌜ now (bits .exit) ≡ placed 0 (code n (depthChoices meters (now (plan .entry)))) (now (bits .entry)) ⌝ }
-{
-    fill_depths(choices, plan, meters);
-    encode_part(choices, n, 0, bits);
-}
-
 // The second part: the arcs, n bits for each, whatever the weights are.
 fn code_arcs(
     choices: &mut [u8],
     plan: &[u8],
+    depths: &[u8],
     us: &[u8],
     vs: &[u8],
     meters: usize,
@@ -100,12 +78,12 @@ fn code_arcs(
     start: usize,
     bits: &mut [u8],
 )
-    requires { ⌜ (meters ≤ 48) × (length (now vs) ≡ length (now us)) × (length (now us) ≤ 256) × (length (now choices) ≡ 2 * length (now us)) ⌝ }
+    requires { ⌜ (now depths ≡ depthChoices meters (now plan)) × Ends meters (now us) (now vs) × (length (now vs) ≡ length (now us)) × (length (now us) ≤ 256) × (length (now choices) ≡ 2 * length (now us)) × (length (now plan) ≡ meters) ⌝ }
     requires { ⌜ ((ws : List ℕ) (k : ℕ) → getD (arcChoices meters (linksOf (now us) (now vs) ws) (now plan)) k 0 ≤ n) × (start + 2 * length (now us) * n ≤ length (now bits)) ⌝ }
     ensures choices { λ _. ⌜ ((ws : List ℕ) → now (choices .exit) ≡ arcChoices meters (linksOf (now (us .entry)) (now (vs .entry)) ws) (now (plan .entry))) ⌝ }
     ensures bits { λ _. ⌜ ((ws : List ℕ) → now (bits .exit) ≡ placed start (code n (arcChoices meters (linksOf (now (us .entry)) (now (vs .entry)) ws) (now (plan .entry)))) (now (bits .entry))) ⌝ }
 {
-    fill_arcs(choices, plan, us, vs, meters);
+    fill_arcs(choices, plan, depths, us, vs, meters);
     encode_part(choices, n, start, bits);
 }
 
@@ -121,9 +99,10 @@ fn code_counts(choices: &mut [u8], plan: &[u8], d: usize, start: usize, bits: &m
     encode_part(choices, d, start, bits);
 }
 
-// The code of a plan: depths, arcs and numbers of neighbours.
+// The code of a plan: depths, whose bits are lent, arcs and numbers of neighbours.
 pub fn encode(
     plan: &[u8],
+    depths: &[u8],
     us: &[u8],
     vs: &[u8],
     ws: &[u16],
@@ -131,19 +110,19 @@ pub fn encode(
     d: usize,
     bits: &mut [u8],
 )
-    requires { ⌜ Arrays meters (now us) (now vs) (now ws) × (isPlan meters d (linksOf (now us) (now vs) (now ws)) (now plan) ≡ true) × (length (now bits) ≡ bitCount meters (length (now us)) d) ⌝ }
+    requires { ⌜ Arrays meters (now us) (now vs) (now ws) × (isPlan meters d (linksOf (now us) (now vs) (now ws)) (now plan) ≡ true) × (now depths ≡ depthChoices meters (now plan)) × (length (now bits) ≡ bitCount meters (length (now us)) d) ⌝ }
     ensures { λ _. ⌜ now (bits .exit) ≡ codeOf meters d (linksOf (now (us .entry)) (now (vs .entry)) (now (ws .entry))) (now (plan .entry)) ⌝ }
 {
     let deepest = meters / 2;
     let first = meters * (deepest + 1);
     let second = first + 2 * us.len() * deepest;
-    let mut depths: [u8; 256] = [0; 256];
     let mut arcs: [u8; 512] = [0; 512];
     let mut counts: [u8; 256] = [0; 256];
-    code_depths(&mut depths[..meters], plan, meters, deepest + 1, bits);
+    encode_part(depths, deepest + 1, 0, bits);
     code_arcs(
         &mut arcs[..2 * us.len()],
         plan,
+        depths,
         us,
         vs,
         meters,
@@ -167,6 +146,21 @@ fn read_arc(bits: &[u8], start: usize, deepest: usize, u: u8, v: u8, plan: &mut 
     plan[at] = sum as u8;
 }
 
+// Adds the parents that the two arcs of a link give; their bits lie one behind the other from `start` on. Few links are in a tree, so one count passes most of them over.
+fn read_link(bits: &[u8], start: usize, deepest: usize, u: u8, v: u8, plan: &mut [u8])
+    requires { ⌜ Bits (now bits) × (deepest ≤ 24) × (start + deepest + deepest ≤ length (now bits)) × (setFrom (now bits) start deepest ≤ 1) × (setFrom (now bits) (start + deepest) deepest ≤ 1) ⌝ }
+    requires { ⌜ (1 ≤ u) × (u < v) × (v ≤ 48) × (v ≤ length (now plan)) × ((k : ℕ) → getD (now plan) k 0 ≤ 48) × ((k : ℕ) → getD (added v (setFrom (now bits) start deepest * u) (now plan)) k 0 ≤ 48) ⌝ }
+    ensures { λ _. ⌜ now (plan .exit) ≡ added u (setFrom (now (bits .entry)) (start + deepest) deepest * v) (added v (setFrom (now (bits .entry)) start deepest * u) (now (plan .entry))) ⌝ }
+{
+    let middle = start + deepest;
+    let end = middle + deepest;
+    if onehot::set_count(&bits[start..end]) == 0 {
+        return;
+    }
+    read_arc(bits, start, deepest, u, v, plan);
+    read_arc(bits, middle, deepest, v, u, plan);
+}
+
 // The parents read off the arcs, where no meter has more than one arc set into it.
 pub fn read_parents(
     bits: &[u8],
@@ -185,8 +179,7 @@ pub fn read_parents(
     let mut k: usize = 0;
     while k < us.len() {
         let start = ends + 2 * k * deepest;
-        read_arc(bits, start, deepest, us[k], vs[k], plan);
-        read_arc(bits, start + deepest, deepest, vs[k], us[k], plan);
+        read_link(bits, start, deepest, us[k], vs[k], plan);
         k += 1;
     }
 }

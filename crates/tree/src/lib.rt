@@ -1,7 +1,7 @@
 // Kind 3, tree: what document 01 asks of it, over the number of meters, the links as three arrays, and d.
 // Definitions are in specs/ here and in `spanning` and `arcs`; that the assignments below A are the codes of plans, and the lowest those of the best spanning trees within the neighbour limit where there is any, is proved in proofs/.
 ghost use Prim.Native.Nat.{ℕ, _+_, _-_, _≤_, _<_};
-ghost use mathlib.Core.Bool.{true};
+ghost use mathlib.Core.Bool.{cond};
 ghost use mathlib.Core.Path.{_≡_};
 ghost use mathlib.Core.List.{List, _++_};
 ghost use lib.ListN.{length, drop};
@@ -113,16 +113,8 @@ pub fn energy(
     sum as i64
 }
 
-// Whether the bytes are a plan: parents that make a tree within the neighbour limit, with no depth over D.
-pub fn is_plan(plan: &[u8], us: &[u8], vs: &[u8], ws: &[u16], meters: usize, d: usize) -> bool
-    requires { ⌜ Arrays meters (now us) (now vs) (now ws) ⌝ }
-    ensures { λ r. ⌜ r ≡ isPlan meters d (linksOf (now (us .entry)) (now (vs .entry)) (now (ws .entry))) (now (plan .entry)) ⌝ }
-{
-    plans::is_plan(plan, us, vs, ws, meters, d)
-}
-
-// The code of a plan.
-pub fn encode(
+// Whether the bytes are a plan: parents that make a tree within the neighbour limit, with no depth over D. Where they are, the bits are then its code. Depths take a walk up from each meter, so they are found once for both.
+pub fn encode_plan(
     plan: &[u8],
     us: &[u8],
     vs: &[u8],
@@ -130,11 +122,17 @@ pub fn encode(
     meters: usize,
     d: usize,
     bits: &mut [u8],
-)
-    requires { ⌜ Arrays meters (now us) (now vs) (now ws) × (isPlan meters d (linksOf (now us) (now vs) (now ws)) (now plan) ≡ true) × (length (now bits) ≡ bitCount meters (length (now us)) d) ⌝ }
-    ensures { λ _. ⌜ now (bits .exit) ≡ codeOf meters d (linksOf (now (us .entry)) (now (vs .entry)) (now (ws .entry))) (now (plan .entry)) ⌝ }
+) -> bool
+    requires { ⌜ Arrays meters (now us) (now vs) (now ws) × (length (now bits) ≡ bitCount meters (length (now us)) d) ⌝ }
+    ensures plan { λ r. ⌜ r ≡ isPlan meters d (linksOf (now (us .entry)) (now (vs .entry)) (now (ws .entry))) (now (plan .entry)) ⌝ }
+    ensures bits { λ _. ⌜ now (bits .exit) ≡ cond (isPlan meters d (linksOf (now (us .entry)) (now (vs .entry)) (now (ws .entry))) (now (plan .entry))) (codeOf meters d (linksOf (now (us .entry)) (now (vs .entry)) (now (ws .entry))) (now (plan .entry))) (now (bits .entry)) ⌝ }
 {
-    codes::encode(plan, us, vs, ws, meters, d, bits);
+    let mut depths: [u8; 256] = [0; 256];
+    if !plans::is_plan(plan, us, vs, ws, meters, d, &mut depths[..meters]) {
+        return false;
+    }
+    codes::encode(plan, &depths[..meters], us, vs, ws, meters, d, bits);
+    true
 }
 
 // The plan that an assignment codes, if any: bits code a plan exactly where the six sums are 0, and it is then read off the arcs.
@@ -151,11 +149,11 @@ pub fn decode(
     ensures answer { λ r. ⌜ r ≡ answerOf meters d (linksOf (now (us .entry)) (now (vs .entry)) (now (ws .entry))) (now (bits .entry)) ⌝ }
     ensures plan { λ r. ⌜ now (plan .exit) ≡ planAfter meters d (linksOf (now (us .entry)) (now (vs .entry)) (now (ws .entry))) (now (bits .entry)) (now (plan .entry)) ⌝ }
 {
-    if sums::broken_of(bits, us, vs, ws, meters, d) != 0 {
+    if !sums::is_unbroken(bits, us, vs, ws, meters, d) {
         return Decoded::NoPlan;
     }
     let deep = meters / 2;
-    let weight = arcs::sums::arc_cost(bits, us, vs, ws, meters, deep);
     codes::read_parents(bits, us, vs, ws, meters, deep, plan);
+    let weight = plans::tree_weight(plan, us, vs, ws);
     Decoded::Plan { weight: weight }
 }

@@ -1,21 +1,23 @@
 // Whether bytes are a plan: one root, parents that are linked neighbours, no depth over D, and no meter with more than d neighbours.
 ghost use Prim.Native.Nat.{ℕ, _+_, _≤_, _<_};
+ghost use mathlib.Core.Bool.{true};
 ghost use mathlib.Core.Path.{_≡_};
 ghost use mathlib.Core.List.{List};
 ghost use lib.ListN.{length};
 ghost use Rattle.lists.specs.Tests.{all, from};
 ghost use Rattle.lists.specs.Sums.{sumOf, same, nth};
-ghost use Rattle.links.specs.Links.{linksOf};
+ghost use Rattle.links.specs.Links.{Link, linksOf};
 ghost use Rattle.links.specs.Survey.{Arrays};
 ghost use Rattle.spanning.specs.Parents.{deepest, depthOf, atMost, neighbours};
-ghost use Rattle.tree.specs.Plans.{bitOfDepth, fewNeighbours, isPlan};
-ghost use Rattle.tree.specs.Stores.{Counted};
+ghost use Rattle.tree.specs.Plans.{bitOfDepth, depthChoices, fewNeighbours, isPlan, treeWeight};
+ghost use Rattle.tree.specs.Stores.{Counted, Ends, usedWeight};
 
-// 1 where u is the parent of meter v, else 0.
+// 1 where u is the parent of meter v, else 0. Ends of links are meters, so their parents are read with no further test.
 pub fn is_parent(plan: &[u8], u: u8, v: u8) -> usize
+    requires { ⌜ (1 ≤ v) × (v ≤ length (now plan)) ⌝ }
     ensures { λ r. ⌜ r ≡ same (nth (now (plan .entry)) v) u ⌝ }
 {
-    if spanning::parent_of(plan, v as usize) == (u as usize) {
+    if plan[(v as usize) - 1] == u {
         return 1;
     }
     0
@@ -23,7 +25,7 @@ pub fn is_parent(plan: &[u8], u: u8, v: u8) -> usize
 
 // How many links join a meter to its parent, whatever their weights are.
 fn parent_links(plan: &[u8], us: &[u8], vs: &[u8]) -> usize
-    requires { ⌜ (length (now vs) ≡ length (now us)) × (length (now us) ≤ 256) ⌝ }
+    requires { ⌜ Ends (length (now plan)) (now us) (now vs) × (length (now vs) ≡ length (now us)) × (length (now us) ≤ 256) ⌝ }
     ensures { λ r. ⌜ ((ws : List ℕ) → r ≡ sumOf (linksOf (now (us .entry)) (now (vs .entry)) ws) (λ l. same (nth (now (plan .entry)) (l .u)) (l .v) + same (nth (now (plan .entry)) (l .v)) (l .u))) ⌝ }
 {
     let mut count: usize = 0;
@@ -37,8 +39,35 @@ fn parent_links(plan: &[u8], us: &[u8], vs: &[u8]) -> usize
     count
 }
 
+// The weight w of a link where one of its ends u and v is the other's parent, else 0.
+fn weight_used(plan: &[u8], u: u8, v: u8, w: u16) -> u64
+    requires { ⌜ (1 ≤ u) × (u < v) × (v ≤ length (now plan)) ⌝ }
+    ensures { λ r. ⌜ ((l : Link) → l .u ≡ u → l .v ≡ v → l .weight ≡ w → r ≡ usedWeight (now (plan .entry)) l) × (r ≤ w) ⌝ }
+{
+    let up = is_parent(plan, v, u);
+    let down = is_parent(plan, u, v);
+    if up + down == 0 {
+        return 0;
+    }
+    w as u64
+}
+
+// The weight of the tree: of the links that join a meter to its parent.
+pub fn tree_weight(plan: &[u8], us: &[u8], vs: &[u8], ws: &[u16]) -> u64
+    requires { ⌜ Arrays (length (now plan)) (now us) (now vs) (now ws) ⌝ }
+    ensures { λ r. ⌜ r ≡ treeWeight (linksOf (now (us .entry)) (now (vs .entry)) (now (ws .entry))) (now (plan .entry)) ⌝ }
+{
+    let mut sum: u64 = 0;
+    let mut k: usize = 0;
+    while k < us.len() {
+        sum += weight_used(plan, us[k], vs[k], ws[k]);
+        k += 1;
+    }
+    sum
+}
+
 // Which of its depth bits meter v has set, from 1: 1 more than its depth, and 0 in a ring of parents.
-pub fn depth_bit(plan: &[u8], v: usize, meters: usize) -> usize
+fn depth_bit(plan: &[u8], v: usize, meters: usize) -> usize
     ensures { λ r. ⌜ (r ≡ bitOfDepth (depthOf (now (plan .entry)) meters v)) × (r ≤ meters) ⌝ }
 {
     let depth = spanning::depth_of(plan, v, meters);
@@ -48,15 +77,28 @@ pub fn depth_bit(plan: &[u8], v: usize, meters: usize) -> usize
     }
 }
 
-// Whether no depth exceeds D; a ring of parents has no depth.
-fn depths_within(plan: &[u8], meters: usize) -> bool
-    requires { ⌜ meters ≤ 48 ⌝ }
-    ensures { λ r. ⌜ r ≡ all (λ v. atMost (deepest meters) (depthOf (now (plan .entry)) meters v)) (from 1 meters) ⌝ }
+// The bits of all depths.
+fn fill_depths(depths: &mut [u8], plan: &[u8], meters: usize)
+    requires { ⌜ (meters ≤ 48) × (length (now depths) ≡ meters) ⌝ }
+    ensures { λ _. ⌜ now (depths .exit) ≡ depthChoices meters (now (plan .entry)) ⌝ }
 {
-    let last = meters / 2 + 1;
     let mut v: usize = 0;
     while v < meters {
         let b = depth_bit(plan, v + 1, meters);
+        depths[v] = b as u8;
+        v += 1;
+    }
+}
+
+// Whether no depth exceeds D; a ring of parents has no depth. The bits of all depths are lent.
+fn depths_within(depths: &[u8], meters: usize) -> bool
+    requires { ⌜ (meters ≤ 48) × (length (now depths) ≡ meters) ⌝ }
+    ensures { λ r. ⌜ ((p : List ℕ) → now (depths .entry) ≡ depthChoices meters p → r ≡ all (λ v. atMost (deepest meters) (depthOf p meters v)) (from 1 meters)) ⌝ }
+{
+    let last = (meters / 2 + 1) as u8;
+    let mut v: usize = 0;
+    while v < meters {
+        let b = depths[v];
         if b == 0 {
             return false;
         }
@@ -96,10 +138,19 @@ fn within_limit(counts: &[u64], plan: &[u8], d: usize) -> bool
     true
 }
 
-// Whether the bytes are a plan. With one root, all parents are linked neighbours exactly where meters - 1 links join a meter to its parent.
-pub fn is_plan(plan: &[u8], us: &[u8], vs: &[u8], ws: &[u16], meters: usize, d: usize) -> bool
-    requires { ⌜ Arrays meters (now us) (now vs) (now ws) ⌝ }
-    ensures { λ r. ⌜ r ≡ isPlan meters d (linksOf (now (us .entry)) (now (vs .entry)) (now (ws .entry))) (now (plan .entry)) ⌝ }
+// Whether the bytes are a plan. With one root, all parents are linked neighbours exactly where meters - 1 links join a meter to its parent. Depths come last, since they take a walk up from each meter; the bits of a plan's depths are then in the lent slice.
+pub fn is_plan(
+    plan: &[u8],
+    us: &[u8],
+    vs: &[u8],
+    ws: &[u16],
+    meters: usize,
+    d: usize,
+    depths: &mut [u8],
+) -> bool
+    requires { ⌜ Arrays meters (now us) (now vs) (now ws) × (length (now depths) ≡ meters) ⌝ }
+    ensures plan { λ r. ⌜ r ≡ isPlan meters d (linksOf (now (us .entry)) (now (vs .entry)) (now (ws .entry))) (now (plan .entry)) ⌝ }
+    ensures depths { λ r. ⌜ (r ≡ true → now (depths .exit) ≡ depthChoices meters (now (plan .entry))) ⌝ }
 {
     if plan.len() != meters {
         return false;
@@ -112,8 +163,9 @@ pub fn is_plan(plan: &[u8], us: &[u8], vs: &[u8], ws: &[u16], meters: usize, d: 
     if parent_links(plan, us, vs) != meters - 1 {
         return false;
     }
-    if !depths_within(plan, meters) {
+    if !within_limit(&counts[..256], plan, d) {
         return false;
     }
-    within_limit(&counts[..256], plan, d)
+    fill_depths(depths, plan, meters);
+    depths_within(depths, meters)
 }

@@ -95,7 +95,7 @@ fn tree_agrees(weights: &[u16; 64], c: Case, plans: Least) -> bool {
 }
 
 // A case.
-fn compare_case(image: &[u8], weights: &[u16; 64], c: Case, counts: &mut [u64; 66]) {
+pub fn compare_case(image: &[u8], weights: &[u16; 64], c: Case, counts: &mut [u64; 66]) {
     rows::compare_rows(image, weights, c, counts);
     let plans = lists::compare_lists(image, weights, c, counts);
     counts::compared(counts, counts::LEAST, tree_agrees(weights, c, plans));

@@ -43,6 +43,9 @@ loop-again c =
     (λ w. omega (arith, apart-same (s .part .now) (s .other .now) i (omega (arith, w .0 .left))))
     (c .if1 .came)
 
+cast-result : tie.Need-cast-result Inv-loop μ-loop
+cast-result c = omega arith
+
 returns : tie.Need-returns Inv-loop μ-loop
 returns c = apart-are (c .before .before .args .part .now) (c .before .before .args .other .now) (c .before .loop .i) _ _ (omega arith) (c .before .loop .inv .2)
 
@@ -59,4 +62,5 @@ apart-spec =
     add-i
     loop-less
     loop-again
+    cast-result
     returns)

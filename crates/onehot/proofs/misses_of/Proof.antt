@@ -2,7 +2,7 @@ use Prim.Native.Nat.{_≤_, _+_, _*_, _-_}
 use mathlib.Core.Path.{_≡_, ap, _∙_}
 use native.Mathlib.Omega.{arith}
 use Rattle.onehot.specs.Choices.{bitAt, missSquared, misses}
-use Rattle.onehot.proofs.Parts.{part-within, setAt-le, cut-small, cut-count}
+use Rattle.onehot.proofs.Parts.{part-within, setAt-le, cut-short, cut-count}
 use Rattle.onehot.proofs.Turns.{misses-zero, misses-next}
 use Rattle.onehot.proofs.misses_of.Statement.{statement}
 use Rattle.onehot.proofs.misses_of.Tie as tie
@@ -41,7 +41,7 @@ part-set-count-end c =
 set-count-requires : tie.Need-set-count-requires Inv-loop μ-loop
 set-count-requires c κs =
     let s = c .before .before .before .before in
-    cut-small (s .args .n) (s .args .meters) (c .before .before .loop .v) (s .args .bits .now) (omega arith) (omega arith) (s .pre .2 .bits)
+    cut-short (s .args .n) (s .args .meters) (c .before .before .loop .v) (s .args .bits .now) (omega arith) (omega arith) (omega arith) (s .pre .2 .bits)
 
 miss-squared-requires : tie.Need-miss-squared-requires Inv-loop μ-loop
 miss-squared-requires c κs =

@@ -21,14 +21,8 @@ loop-holds c = omega (arith, sumTo-zero (bothSet (c .args .part .now) (c .args .
 shared-slice-read-both : tie.Need-shared-slice-read-both Inv-loop μ-loop
 shared-slice-read-both c = omega arith
 
-cast-both : tie.Need-cast-both Inv-loop μ-loop
-cast-both c = omega (arith, c .shared-slice-known .given (c .before .before .loop .i))
-
 shared-slice-read-both-2 : tie.Need-shared-slice-read-both-2 Inv-loop μ-loop
 shared-slice-read-both-2 c = omega arith
-
-cast-both-2 : tie.Need-cast-both-2 Inv-loop μ-loop
-cast-both-2 c = omega (arith, c .shared-slice-known2 .given (c .before .before .before .loop .i))
 
 mul-both : tie.Need-mul-both Inv-loop μ-loop
 mul-both c =
@@ -54,6 +48,9 @@ loop-again c =
     let i = c .before .before .before .loop .i in
     omega (arith, bit-bit (getD (s .args .part .now) i 0) (getD (s .args .other .now) i 0) (s .pre .2 i) (s .pre .3 i), both-next (s .args .part .now) (s .args .other .now) i)
 
+cast-result : tie.Need-cast-result Inv-loop μ-loop
+cast-result c = omega arith
+
 returns : tie.Need-returns Inv-loop μ-loop
 returns c = both-are (c .before .before .args .part .now) (c .before .before .args .other .now) (c .before .loop .i) _ _ (omega arith) (c .before .loop .inv .2)
 
@@ -65,12 +62,11 @@ overlap-spec =
     μ-loop
     loop-holds
     shared-slice-read-both
-    cast-both
     shared-slice-read-both-2
-    cast-both-2
     mul-both
     add-both
     add-i
     loop-less
     loop-again
+    cast-result
     returns)

@@ -20,11 +20,8 @@ loop-holds c = omega (arith, sumTo-zero (nth (c .args .part .now)))
 shared-slice-read-sum : tie.Need-shared-slice-read-sum Inv-loop μ-loop
 shared-slice-read-sum c = omega arith
 
-cast-sum : tie.Need-cast-sum Inv-loop μ-loop
-cast-sum c = omega (arith, c .shared-slice-known .given (c .before .before .loop .i))
-
 add-sum : tie.Need-add-sum Inv-loop μ-loop
-add-sum c = omega (arith, c .before .before .before .pre (c .before .before .loop .i))
+add-sum c = omega (arith, c .before .before .before .pre .0 (c .before .before .loop .i))
 
 add-i : tie.Need-add-i Inv-loop μ-loop
 add-i c = omega arith
@@ -36,7 +33,10 @@ loop-again : tie.Need-loop-again Inv-loop μ-loop
 loop-again c =
     let part = c .before .before .before .args .part .now in
     let i = c .before .before .loop .i in
-    omega (arith, c .before .before .before .pre i, sumTo-next i (nth part), nth-suc part i)
+    omega (arith, c .before .before .before .pre .0 i, sumTo-next i (nth part), nth-suc part i)
+
+cast-result : tie.Need-cast-result Inv-loop μ-loop
+cast-result c = omega arith
 
 returns : tie.Need-returns Inv-loop μ-loop
 returns c =
@@ -51,9 +51,9 @@ set-count-spec =
     μ-loop
     loop-holds
     shared-slice-read-sum
-    cast-sum
     add-sum
     add-i
     loop-less
     loop-again
+    cast-result
     returns)

@@ -16,7 +16,7 @@ add-arcs-requires c κs =
     let s = c .before .before .before .before .before in
     let low = c .before .before .if1 .left in
     let high = c .before .if2 .left in
-    (s .pre .0, omega arith, omega arith, rw (toZ-ofZ (s .fits .v)) (into-room _ _ _ _ _ _ _ _ (omega arith) (omega arith) (s .pre .1)))
+    (s .pre .0, omega arith, omega arith, rw (toZ-ofZ (s .fits .v)) (into-room _ _ _ _ _ _ _ _ (omega arith) (omega arith) (s .pre .1)), s .pre .2, omega arith, λ k h. absurd (omega arith))
 
 same-length : tie.Need-same-length
 same-length c = search needs

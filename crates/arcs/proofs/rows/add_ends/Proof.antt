@@ -31,19 +31,23 @@ add-arcs-within-requires : tie.Need-add-arcs-within-requires
 add-arcs-within-requires c κs =
     let s = c .before .before .before .before .before .before .before in
     let a = plain (s .args .penalty) (omega (arith, s .pre .1 .penalty)) in
+    let is = rw (c .before .before .place .given .1) at (s .pre .2) in
     let few = arrays-few _ _ _ _ (s .pre .0 .arrays) in (
       walk-out _ _ _ _ _ _ _ _ (s .pre .0) (s .pre .1),
       rw (a, opposite-is (pos (s .args .penalty)) (omega (arith, s .pre .1 .penalty))) (within-room _ _ _ _ _ _ _ _ _ (less-small _ (s .pre .1 .penalty)) (omega (arith, s .pre .0 .arrays .same-v)) (λ k. omega (arith, s .pre .1 .small k))),
+      omega (arith, is .high, s .pre .0 .arrays .survey .meters-high),
     )
 
 add-arcs-within-requires-2 : tie.Need-add-arcs-within-requires-2
 add-arcs-within-requires-2 c κs =
     let s = c .before .before .before .before .before .before .before .before .before .before in
     let a = plain (s .args .penalty) (omega (arith, s .pre .1 .penalty)) in
+    let is = rw (c .before .before .before .before .before .place .given .1) at (s .pre .2) in
     let few = arrays-few _ _ _ _ (s .pre .0 .arrays) in
     let first = rw (a, opposite-is (pos (s .args .penalty)) (omega (arith, s .pre .1 .penalty))) at (c .before .before .add-arcs-within .ensures) in (
       walk-on _ _ _ _ _ _ _ (omega (arith, c .before .before .add-arcs-within .kept)) (walk-into _ _ _ _ _ _ _ _ (s .pre .0) (s .pre .1)),
       rw (a, opposite-is (pos (s .args .penalty)) (omega (arith, s .pre .1 .penalty))) (within-room _ _ _ _ _ _ _ _ _ (less-small _ (s .pre .1 .penalty)) few (within-small _ _ _ _ _ _ _ _ _ (less-small _ (s .pre .1 .penalty)) (omega (arith, s .pre .0 .arrays .same-v)) (s .pre .1 .small) _ first)),
+      omega (arith, is .high, s .pre .0 .arrays .survey .meters-high),
     )
 
 enum-told : tie.Need-enum-told

@@ -4,7 +4,7 @@ use native.Mathlib.Omega.{arith}
 use borrow.Author.Needs.{needs}
 use Rattle.qubo.proofs.Turns.{fits-less}
 use Rattle.arcs.proofs.ArcLists.{lent-arc}
-use Rattle.arcs.proofs.EntryRows.{depth-held, depth-entry, root-entry, arc-held, arc-entry, behind-entry}
+use Rattle.arcs.proofs.EntryRows.{depth-held, depth-entry, root-entry, arc-held, arc-link, arc-under, arc-entry, behind-entry}
 use Rattle.arcs.proofs.ArcWalk.{walk-into}
 use Rattle.arcs.proofs.Signed.{opposite-is, plain}
 use Rattle.arcs.proofs.rows.add_entries.Statement.{statement}
@@ -23,15 +23,24 @@ add-entry-requires : tie.Need-add-entry-requires
 add-entry-requires c κs =
     let s = c .before .before .before .before .before .before .before .before in
     let a = plain (2 * s .args .penalty) (omega (arith, s .pre .1 .penalty)) in
-    let is = rw (c .before .before .before .place .given .1) at (s .pre .2) in
-    (s .pre .1, walk-into _ _ _ _ _ _ _ _ (s .pre .0) (s .pre .1), is .low, is .high, omega (arith, c .before .if1 .taken), is .deep, rw a (depth-held _ _ _ _ _ (s .args .ws .now) _ _ _ is))
+    let is = rw (c .before .before .before .place .given .1) at (s .pre .2) in (
+      s .pre .1,
+      walk-into _ _ _ _ _ _ _ _ (s .pre .0) (s .pre .1),
+      is .low,
+      is .high,
+      omega (arith, c .before .if1 .taken),
+      is .deep,
+      rw a (depth-held _ _ _ _ _ (s .args .ws .now) _ _ _ is),
+      omega arith,
+      λ k h. absurd (omega arith),
+    )
 
 enum-known-place-2 : tie.Need-enum-known-place-2
 enum-known-place-2 c = search needs
 
-sub-add-entry : tie.Need-sub-add-entry
-sub-add-entry c =
-    let s = c .before .before .before .before .before .before .before in
+sub-less : tie.Need-sub-less
+sub-less c =
+    let s = c .before .before .before .before .before .before in
     rw (plain (2 * s .args .penalty) (omega (arith, s .pre .1 .penalty))) (fits-less (pos (2 * s .args .penalty)) (omega (arith, s .pre .1 .penalty)))
 
 add-entry-requires-2 : tie.Need-add-entry-requires-2
@@ -47,6 +56,8 @@ add-entry-requires-2 c κs =
       is .low,
       is .deep,
       rw (a, opposite-is (pos (2 * s .args .penalty)) (omega (arith, s .pre .1 .penalty))) (arc-held _ _ _ _ _ _ (s .pre .0) _ _ _ is),
+      arc-link _ _ _ _ _ _ _ _ is,
+      arc-under _ _ _ _ _ _ _ _ is,
     )
 
 enum-told : tie.Need-enum-told
@@ -85,7 +96,7 @@ add-entries-spec =
     enum-known-place
     add-entry-requires
     enum-known-place-2
-    sub-add-entry
+    sub-less
     add-entry-requires-2
     enum-told
     same-length

@@ -64,6 +64,9 @@ add-arcs-requires c κs =
       s .pre .4,
       s .pre .5,
       rw (q, opposite-is (s .args .q) (omega (arith, s .pre .0 .penalty))) (arcs-room _ _ _ _ _ _ _ _ _ _ (s .pre .0) (s .pre .1 .few) (s .pre .6) _ first _ second),
+      omega (arith, s .pre .3, s .pre .1 .meters),
+      s .pre .7,
+      s .pre .8,
     )
 
 same-length : tie.Need-same-length

@@ -5,7 +5,7 @@ use native.Mathlib.Omega.{arith}
 use Rattle.links.proofs.Walk.{link-at, arrays-few}
 use Rattle.links.specs.Links.{linksOf}
 use Rattle.arcs.proofs.ArcSums.{ArcsSummed, summed-start, summed-turn, summed-end}
-use Rattle.arcs.proofs.Slices.{slice-bits, link-within}
+use Rattle.arcs.proofs.Slices.{slice-short, link-within}
 use Rattle.arcs.proofs.Summing.{costOf, cost-sum, cost-link, cost-small}
 use Rattle.arcs.specs.Arcs.{arcs}
 use Rattle.arcs.proofs.sums.arc_cost.Statement.{statement}
@@ -58,7 +58,7 @@ set-count-requires c κs =
     let s = c .before .before .before .before .before .before .before .before in
     let l = c .before .before .before .loop in
     let a = c .before .arc-start in
-    slice-bits (s .args .bits .now) (a .result) (a .result + 2 * s .args .deepest) (2 * s .args .deepest) refl (omega (arith, link-within (s .args .meters) (s .args .deepest) (length (s .args .us .now)) (l .k) (omega arith), s .pre .2, a .ensures .0)) (s .pre .1)
+    slice-short (s .args .bits .now) (a .result) (a .result + 2 * s .args .deepest) (2 * s .args .deepest) refl (omega (arith, link-within (s .args .meters) (s .args .deepest) (length (s .args .us .now)) (l .k) (omega arith), s .pre .2, a .ensures .0)) (omega (arith, s .pre .0 .deep)) (s .pre .1)
 
 mul-sum : tie.Need-mul-sum Inv-loop μ-loop
 mul-sum c =

@@ -43,46 +43,18 @@ cast-v c =
     let k = link-at (s .args .meters) (s .args .us .now) (s .args .vs .now) (s .args .ws .now) (s .pre .0 .arrays) (l .k) (omega arith) in
     omega arith
 
-mul-arc-misses : tie.Need-mul-arc-misses Inv-loop μ-loop
-mul-arc-misses c =
-    let s = c .before .before .before .before .before .before .before .before in
-    let l = c .before .before .before .loop in
-    omega (arith, arrays-few (s .args .meters) (s .args .us .now) (s .args .vs .now) (s .args .ws .now) (s .pre .0 .arrays))
-
-arc-misses-requires : tie.Need-arc-misses-requires Inv-loop μ-loop
-arc-misses-requires c κs =
+link-misses-requires : tie.Need-link-misses-requires Inv-loop μ-loop
+link-misses-requires c κs =
     let s = c .before .before .before .before .before .before .before .before in
     let l = c .before .before .before .loop in
     let k = link-at (s .args .meters) (s .args .us .now) (s .args .vs .now) (s .args .ws .now) (s .pre .0 .arrays) (l .k) (omega arith) in
-    (s .pre .0 .arrays .survey .meters-high, s .pre .0 .deep, omega (arith, arrays-few (s .args .meters) (s .args .us .now) (s .args .vs .now) (s .args .ws .now) (s .pre .0 .arrays)), k .0, omega arith, omega arith, k .2, s .pre .1, omega (arith, arc-within (s .args .meters) (s .args .deepest) (length (s .args .us .now)) (2 * l .k) (omega arith), s .pre .2))
-
-mul-arc-misses-2 : tie.Need-mul-arc-misses-2 Inv-loop μ-loop
-mul-arc-misses-2 c =
-    let s = c .before .before .before .before .before .before .before .before .before in
-    let l = c .before .before .before .before .loop in
-    omega (arith, arrays-few (s .args .meters) (s .args .us .now) (s .args .vs .now) (s .args .ws .now) (s .pre .0 .arrays))
-
-add-arc-misses : tie.Need-add-arc-misses Inv-loop μ-loop
-add-arc-misses c =
-    let s = c .before .before .before .before .before .before .before .before .before in
-    let l = c .before .before .before .before .loop in
-    omega (arith, arrays-few (s .args .meters) (s .args .us .now) (s .args .vs .now) (s .args .ws .now) (s .pre .0 .arrays))
-
-arc-misses-requires-2 : tie.Need-arc-misses-requires-2 Inv-loop μ-loop
-arc-misses-requires-2 c κs =
-    let s = c .before .before .before .before .before .before .before .before .before in
-    let l = c .before .before .before .before .loop in
-    let k = link-at (s .args .meters) (s .args .us .now) (s .args .vs .now) (s .args .ws .now) (s .pre .0 .arrays) (l .k) (omega arith) in
-    (s .pre .0 .arrays .survey .meters-high, s .pre .0 .deep, omega (arith, arrays-few (s .args .meters) (s .args .us .now) (s .args .vs .now) (s .args .ws .now) (s .pre .0 .arrays)), omega arith, k .2, k .0, omega arith, s .pre .1, omega (arith, arc-within (s .args .meters) (s .args .deepest) (length (s .args .us .now)) (2 * l .k + 1) (omega arith), s .pre .2))
+    (s .pre .0 .arrays .survey .meters-high, s .pre .0 .deep, omega (arith, arrays-few (s .args .meters) (s .args .us .now) (s .args .vs .now) (s .args .ws .now) (s .pre .0 .arrays)), k .0, omega arith, omega arith, k .2, s .pre .1, omega (arith, arc-within (s .args .meters) (s .args .deepest) (length (s .args .us .now)) (2 * l .k + 1) (omega arith), s .pre .2))
 
 add-sum : tie.Need-add-sum Inv-loop μ-loop
-add-sum c = omega (arith, c .before .arc-misses .ensures .1, c .arc-misses2 .ensures .1)
-
-add-sum-2 : tie.Need-add-sum-2 Inv-loop μ-loop
-add-sum-2 c =
-    let s = c .before .before .before .before .before .before .before .before .before .before in
-    let l = c .before .before .before .before .before .loop in
-    omega (arith, c .before .arc-misses .ensures .1, c .arc-misses2 .ensures .1, arrays-few (s .args .meters) (s .args .us .now) (s .args .vs .now) (s .args .ws .now) (s .pre .0 .arrays))
+add-sum c =
+    let s = c .before .before .before .before .before .before .before .before .before in
+    let l = c .before .before .before .before .loop in
+    omega (arith, c .link-misses .ensures .1, arrays-few (s .args .meters) (s .args .us .now) (s .args .vs .now) (s .args .ws .now) (s .pre .0 .arrays))
 
 add-k : tie.Need-add-k Inv-loop μ-loop
 add-k c = omega arith
@@ -92,12 +64,11 @@ loop-less c = omega arith
 
 loop-again : tie.Need-loop-again Inv-loop μ-loop
 loop-again c =
-    let s = c .before .before .before .before .before .before .before .before .before .before in
-    let l = c .before .before .before .before .before .loop in
-    let up = c .before .arc-misses in
-    let back = c .arc-misses2 in
-    let h = c .before .before .before .before .loop-test .taken in
-    (omega (arith, h), omega (arith, up .ensures .1, back .ensures .1), summed-turn (s .args .us .now) (s .args .vs .now) (s .args .ws .now) (missesOf (s .args .meters) (s .args .deepest) (s .args .bits .now)) (l .k) (l .sum) (l .inv .2) (up .result + back .result) h (misses-link (s .args .meters) (s .args .deepest) (s .args .bits .now) (s .args .us .now) (s .args .vs .now) (s .args .ws .now) (l .k) (up .result) (back .result) (up .ensures .0) (back .ensures .0)))
+    let s = c .before .before .before .before .before .before .before .before .before in
+    let l = c .before .before .before .before .loop in
+    let r = c .link-misses in
+    let h = c .before .before .before .loop-test .taken in
+    (omega (arith, h), omega (arith, r .ensures .1), summed-turn (s .args .us .now) (s .args .vs .now) (s .args .ws .now) (missesOf (s .args .meters) (s .args .deepest) (s .args .bits .now)) (l .k) (l .sum) (l .inv .2) (r .result) h (misses-link (s .args .meters) (s .args .deepest) (s .args .bits .now) (s .args .us .now) (s .args .vs .now) (s .args .ws .now) (l .k) (r .result) (r .ensures .0)))
 
 returns : tie.Need-returns Inv-loop μ-loop
 returns c =
@@ -116,13 +87,8 @@ end-misses-spec =
     cast-u
     shared-slice-read-v
     cast-v
-    mul-arc-misses
-    arc-misses-requires
-    mul-arc-misses-2
-    add-arc-misses
-    arc-misses-requires-2
+    link-misses-requires
     add-sum
-    add-sum-2
     add-k
     loop-less
     loop-again

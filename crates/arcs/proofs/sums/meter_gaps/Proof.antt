@@ -41,9 +41,6 @@ part-part-gaps-end c =
     let p = c .depth-start in
     omega (arith, meter-within (s .args .deepest) (l .v + 1) (s .args .meters) (omega arith) (omega arith))
 
-mul-part-gaps : tie.Need-mul-part-gaps Inv-loop μ-loop
-mul-part-gaps c = omega arith
-
 sub-part-gaps-2 : tie.Need-sub-part-gaps-2 Inv-loop μ-loop
 sub-part-gaps-2 c = omega arith
 
@@ -102,7 +99,6 @@ meter-gaps-spec =
     sub-part-gaps
     part-part-gaps-start
     part-part-gaps-end
-    mul-part-gaps
     sub-part-gaps-2
     part-part-gaps-start-2
     part-part-gaps-end-2

@@ -19,23 +19,14 @@ loop-holds c = omega (arith, misses-start (c .args .part .now) (c .args .above .
 shared-slice-read-set : tie.Need-shared-slice-read-set Inv-loop μ-loop
 shared-slice-read-set c = omega arith
 
-cast-set : tie.Need-cast-set Inv-loop μ-loop
-cast-set c = omega (arith, c .before .before .before .pre .4 (c .before .before .loop .i))
-
 shared-slice-read-set-2 : tie.Need-shared-slice-read-set-2 Inv-loop μ-loop
 shared-slice-read-set-2 c = omega arith
-
-cast-set-2 : tie.Need-cast-set-2 Inv-loop μ-loop
-cast-set-2 c = omega (arith, c .before .before .before .before .pre .5 (c .before .before .before .loop .i))
 
 add-set : tie.Need-add-set Inv-loop μ-loop
 add-set c = omega (arith, c .before .before .before .before .pre .4 (c .before .before .before .loop .i), c .before .before .before .before .pre .5 (c .before .before .before .loop .i))
 
 shared-slice-read-sum : tie.Need-shared-slice-read-sum Inv-loop μ-loop
 shared-slice-read-sum c = omega arith
-
-cast-sum : tie.Need-cast-sum Inv-loop μ-loop
-cast-sum c = omega (arith, c .before .before .before .before .before .pre .3 (c .before .before .before .before .loop .i))
 
 sub-sum : tie.Need-sub-sum Inv-loop μ-loop
 sub-sum c = omega (arith, c .before .before .before .before .before .pre .4 (c .before .before .before .before .loop .i), c .before .before .before .before .before .pre .5 (c .before .before .before .before .loop .i))
@@ -64,6 +55,9 @@ loop-again c =
     let l = c .before .before .before .before .loop in
     omega (arith, miss-small (getD (s .args .part .now) (l .i) 0) (getD (s .args .above .now) (l .i) 0 + getD (s .args .below .now) (l .i) 0) (s .pre .3 (l .i)), misses-next (s .args .part .now) (s .args .above .now) (s .args .below .now) (l .i))
 
+cast-result : tie.Need-cast-result Inv-loop μ-loop
+cast-result c = omega arith
+
 returns : tie.Need-returns Inv-loop μ-loop
 returns c =
     let s = c .before .before in
@@ -78,16 +72,14 @@ part-misses-spec =
     μ-loop
     loop-holds
     shared-slice-read-set
-    cast-set
     shared-slice-read-set-2
-    cast-set-2
     add-set
     shared-slice-read-sum
-    cast-sum
     sub-sum
     mul-sum
     add-sum
     add-i
     loop-less
     loop-again
+    cast-result
     returns)

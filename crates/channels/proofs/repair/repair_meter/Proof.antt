@@ -1,17 +1,13 @@
 use mathlib.Core.Path.{_∙_}
-use native.Mathlib.Omega.{arith}
 use Rattle.links.specs.Links.{linksOf}
-use Rattle.onehot.proofs.Parts.{part-small}
 use Rattle.channels.specs.Repair.{quietest}
 use Rattle.channels.proofs.Repairing.{meter-silent, meter-lowest}
 use borrow.Author.Needs.{needs}
 use Rattle.channels.proofs.repair.repair_meter.Statement.{statement}
 use Rattle.channels.proofs.repair.repair_meter.Tie as tie
 
-set-count-requires : tie.Need-set-count-requires
-set-count-requires c κs =
-    let s = c .before .before .before .before .before .before in
-    part-small (s .args .n) (s .args .meters) (s .args .m) (s .args .bits .now) (s .args .part .now) (s .pre .1 .0) (s .pre .1 .1) (s .pre .1 .2) (omega arith) (s .pre .0 .1 .bits)
+lowest-set-requires : tie.Need-lowest-set-requires
+lowest-set-requires c κs = search needs
 
 quietest-at-requires : tie.Need-quietest-at-requires
 quietest-at-requires c κs = search needs
@@ -19,17 +15,14 @@ quietest-at-requires c κs = search needs
 returns : tie.Need-returns
 returns c =
     let s = c .before .before .before .before .before .before .before .before .before in
-    c .quietest-at .ensures ∙ meter-silent (s .args .n) (s .args .meters) (s .args .m) (s .args .bits .now) (s .args .part .now) (c .before .before .set-count .result) (s .pre .1 .0) (s .pre .1 .1) (s .pre .1 .2) (s .pre .0 .1 .size) (c .before .before .set-count .ensures) (quietest (s .args .n) (linksOf (s .args .us .now) (s .args .vs .now) (s .args .ws .now)) (s .args .bits .now) (s .args .plan .now) (s .args .m)) (c .before .if1 .taken)
-
-lowest-set-requires : tie.Need-lowest-set-requires
-lowest-set-requires c κs = search needs
+    c .quietest-at .ensures ∙ meter-silent (s .args .n) (s .args .meters) (s .args .m) (s .args .bits .now) (s .args .part .now) (c .before .before .lowest-set .result) (s .pre .1 .0) (s .pre .1 .1) (s .pre .1 .2) (s .pre .0 .1 .size) (c .before .before .lowest-set .ensures) (quietest (s .args .n) (linksOf (s .args .us .now) (s .args .vs .now) (s .args .ws .now)) (s .args .bits .now) (s .args .plan .now) (s .args .m)) (c .before .if1 .taken)
 
 returns-2 : tie.Need-returns-2
 returns-2 c =
-    let s = c .before .before .before .before .before .before .before .before .before in
-    c .lowest-set .ensures ∙ meter-lowest (s .args .n) (s .args .meters) (s .args .m) (s .args .bits .now) (s .args .part .now) (c .before .before .set-count .result) (s .pre .1 .0) (s .pre .1 .1) (s .pre .1 .2) (s .pre .0 .1 .size) (c .before .before .set-count .ensures) (quietest (s .args .n) (linksOf (s .args .us .now) (s .args .vs .now) (s .args .ws .now)) (s .args .bits .now) (s .args .plan .now) (s .args .m)) (c .before .if1 .left)
+    let s = c .before .before .before .before .before .before .before .before in
+    meter-lowest (s .args .n) (s .args .meters) (s .args .m) (s .args .bits .now) (s .args .part .now) (c .before .lowest-set .result) (s .pre .1 .0) (s .pre .1 .1) (s .pre .1 .2) (s .pre .0 .1 .size) (c .before .lowest-set .ensures) (quietest (s .args .n) (linksOf (s .args .us .now) (s .args .vs .now) (s .args .ws .now)) (s .args .bits .now) (s .args .plan .now) (s .args .m)) (c .if1 .left)
 
 pub repair-meter-spec : {M : Type 1} → statement M
 repair-meter-spec =
     tie.close
-    (tie.spec set-count-requires quietest-at-requires returns lowest-set-requires returns-2)
+    (tie.spec lowest-set-requires quietest-at-requires returns returns-2)

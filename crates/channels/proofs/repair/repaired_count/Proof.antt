@@ -2,7 +2,7 @@ use Prim.Native.Nat.{_≤_, _-_}
 use mathlib.Core.Path.{_≡_, sym, _∙_}
 use mathlib.Core.Logic.{⊎-elim}
 use native.Mathlib.Omega.{arith}
-use Rattle.onehot.proofs.Parts.{part-within, cut-small, cut-count}
+use Rattle.onehot.proofs.Parts.{part-within, cut-short, cut-count}
 use Rattle.channels.specs.Repair.{repaired}
 use Rattle.channels.proofs.Repairing.{repaired-zero, repaired-more, repaired-same}
 use Rattle.channels.proofs.repair.repaired_count.Statement.{statement}
@@ -42,7 +42,7 @@ part-set-count-end c =
 set-count-requires : tie.Need-set-count-requires Inv-loop μ-loop
 set-count-requires c κs =
     let s = c .before .before .before .before in
-    cut-small (s .args .n) (s .args .meters) (c .before .before .loop .v) (s .args .bits .now) (omega arith) (omega arith) (s .pre .2 .bits)
+    cut-short (s .args .n) (s .args .meters) (c .before .before .loop .v) (s .args .bits .now) (omega arith) (omega arith) (omega arith) (s .pre .2 .bits)
 
 add-sum : tie.Need-add-sum Inv-loop μ-loop
 add-sum c = omega arith

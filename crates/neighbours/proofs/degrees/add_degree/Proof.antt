@@ -76,7 +76,7 @@ add-touching-requires c κs =
     let q-is : q .result ≡ pos 2 *ℤ (pos (s .args .penalty) *ℤ s .args .c) = q .ensures ∙ rw (toZ-ofZ (s .fits .c)) refl in
     let at = start-is _ _ _ (s .args .d) (s .args .meter) _ (p .2) (c .before .before .before .before .before .before .before .first-count .ensures .0) in
     let one : c .before .before .before .before .before .add-single .last .0 ≡ addTerms (single (o .result) (s .args .i) ∷ []) (s .args .i) (s .args .row .now) = c .before .before .before .before .before .add-single .ensures ∙ rw (toZ-ofZ (sfits-of {w = w64} (o .ok))) refl in
-    rw (toZ-ofZ (sfits-of {w = w64} (q .ok))) (touching-ready _ _ _ _ _ _ _ _ _ (p .0) (p .1) (p .2) (p .3) (s .args .c) (p .4) _ (p .5) _ own-is _ q-is _ at _ one _ (c .before .before .add-numbered .ensures ∙ rw (toZ-ofZ (sfits-of {w = w64} (q .ok))) refl))
+    rw (toZ-ofZ (sfits-of {w = w64} (q .ok))) (touching-ready _ _ _ _ _ _ _ _ _ (p .0) (p .1) (p .2) (p .3) (s .args .c) (p .4) _ (p .5) _ own-is _ q-is _ at _ one _ (c .before .before .add-numbered .ensures ∙ rw (toZ-ofZ (sfits-of {w = w64} (q .ok))) refl) _ (s .pre .1 .0 .0) (s .pre .1 .0 .1))
 
 same-length : tie.Need-same-length
 same-length c = search needs
@@ -91,7 +91,7 @@ returns c =
     let q-is : q .result ≡ pos 2 *ℤ (pos (s .args .penalty) *ℤ s .args .c) = q .ensures ∙ rw (toZ-ofZ (s .fits .c)) refl in
     let at = start-is _ _ _ (s .args .d) (s .args .meter) _ (p .2) (c .before .before .before .before .before .before .before .before .before .first-count .ensures .0) in
     let one : c .before .before .before .before .before .before .before .add-single .last .0 ≡ addTerms (single (o .result) (s .args .i) ∷ []) (s .args .i) (s .args .row .now) = c .before .before .before .before .before .before .before .add-single .ensures ∙ rw (toZ-ofZ (sfits-of {w = w64} (o .ok))) refl in
-    degree-done _ _ _ _ _ _ _ _ _ (p .0) (p .1) (p .2) (p .3) (s .args .c) (p .4) _ (p .5) _ own-is _ q-is _ at _ one _ (c .before .before .before .before .add-numbered .ensures ∙ rw (toZ-ofZ (sfits-of {w = w64} (q .ok))) refl) (s .pre .1) _ (c .before .add-touching .ensures ∙ rw (toZ-ofZ (sfits-of {w = w64} (q .ok))) refl)
+    degree-done _ _ _ _ _ _ _ _ _ (p .0) (p .1) (p .2) (p .3) (s .args .c) (p .4) _ (p .5) _ own-is _ q-is _ at _ one _ (c .before .before .before .before .add-numbered .ensures ∙ rw (toZ-ofZ (sfits-of {w = w64} (q .ok))) refl) (s .pre .1 .1) _ (c .before .add-touching .ensures ∙ rw (toZ-ofZ (sfits-of {w = w64} (q .ok))) refl)
 
 pub add-degree-spec : {M : Type 1} → statement M
 add-degree-spec =

@@ -48,11 +48,11 @@ sub-off c =
     let e = c .first-count .ensures in
     count-behind _ _ _ _ _ _ _ _ (p .0) (p .1) (p .2) _ (p .3) _ (e .0) h
 
-div-meter : tie.Need-div-meter
-div-meter c = search needs
+div-m : tie.Need-div-m
+div-m c = search needs
 
-add-meter : tie.Need-add-meter
-add-meter c =
+add-m : tie.Need-add-m
+add-m c =
     let s = c .before .before .before .before .before .before in
     omega (arith, div-le-self (s .args .i - c .first-count .result) (s .args .d), s .fits .i)
 
@@ -122,8 +122,8 @@ add-degrees-spec =
     enum-told-2
     first-count-requires
     sub-off
-    div-meter
-    add-meter
+    div-m
+    add-m
     rem-j
     add-j
     cast-j

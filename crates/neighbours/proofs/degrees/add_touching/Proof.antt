@@ -12,62 +12,54 @@ use Rattle.neighbours.proofs.degrees.add_touching.Statement.{statement}
 use Rattle.neighbours.proofs.degrees.add_touching.Tie as tie
 
 abbrev Inv-loop : tie.InvT-loop
-Inv-loop row₀ i us vs ws meters deepest meter q less k₀ row k = Touched meters deepest meter i us vs (toZ w64 q) row₀ row k
+Inv-loop row₀ i us vs ws meters deepest from meter q less end k₀ row k = Touched meters deepest meter i us vs (toZ w64 q) row₀ row k
 
 abbrev μ-loop : tie.MeasureT-loop
-μ-loop row₀ i us vs ws meters deepest meter q less k₀ row k = length us - k
+μ-loop row₀ i us vs ws meters deepest from meter q less end k₀ row k = length us - k
 
 sub-less : tie.Need-sub-less Inv-loop μ-loop
 sub-less c =
     let s = c .before .before .before in
     rw (toZ-ofZ (s .fits .q)) (fits-less (s .args .q) (omega (arith, s .pre .2 .factor)))
 
+cast-end : tie.Need-cast-end Inv-loop μ-loop
+cast-end c = omega (arith, c .before .before .before .pre .5)
+
 loop-holds : tie.Need-loop-holds Inv-loop μ-loop
 loop-holds c =
     let s = c .before .before .before in
-    rw (toZ-ofZ (s .fits .q)) (touched-start _ _ _ _ _ _ _ (s .pre .0) _ _ (s .pre .2))
-
-link-run-requires : tie.Need-link-run-requires Inv-loop μ-loop
-link-run-requires c κs =
-    let s = c .before .before .before .before .before in
-    (s .pre .0 .arrays .survey .meters-high, s .pre .0 .deep, omega (arith, arrays-few _ _ _ _ (s .pre .0 .arrays), c .before .loop .inv .inside))
+    rw (toZ-ofZ (s .fits .q)) (touched-start _ _ _ _ _ _ _ (s .pre .0) _ _ (s .pre .2) _ (s .pre .3) (s .pre .4))
 
 shared-slice-read-add-link : tie.Need-shared-slice-read-add-link Inv-loop μ-loop
-shared-slice-read-add-link c = c .before .before .before .loop-test .taken
-
-cast-add-link : tie.Need-cast-add-link Inv-loop μ-loop
-cast-add-link c = omega (arith, c .shared-slice-known4 .given (c .before .before .before .before .loop .k))
+shared-slice-read-add-link c = c .before .before .loop-test .taken
 
 shared-slice-read-add-link-2 : tie.Need-shared-slice-read-add-link-2 Inv-loop μ-loop
 shared-slice-read-add-link-2 c =
-    let s = c .before .before .before .before .before .before .before .before .before in
-    omega (arith, s .pre .0 .arrays .same-v, c .before .before .before .before .loop-test .taken)
-
-cast-add-link-2 : tie.Need-cast-add-link-2 Inv-loop μ-loop
-cast-add-link-2 c = omega (arith, c .shared-slice-known5 .given (c .before .before .before .before .before .loop .k))
+    let s = c .before .before .before .before .before .before .before .before in
+    omega (arith, s .pre .0 .arrays .same-v, c .before .before .before .loop-test .taken)
 
 add-link-requires : tie.Need-add-link-requires Inv-loop μ-loop
 add-link-requires c κs =
-    let s = c .before .before .before .before .before .before .before .before .before in
-    let l = c .before .before .before .before .before .loop in
-    rw (toZ-ofZ (sub-less (c .before .before .before .before .before .before)), toZ-ofZ (s .fits .q), c .before .before .before .link-run .ensures)
-    (touched-ready _ _ _ _ _ _ _ (s .pre .0) _ _ (s .pre .2) (l .row) (l .k) (rw (toZ-ofZ (s .fits .q)) at (l .inv)) (c .before .before .before .before .loop-test .taken) (s .pre .1))
+    let s = c .before .before .before .before .before .before .before .before in
+    let l = c .before .before .before .before .loop in
+    rw (toZ-ofZ (sub-less (c .before .before .before .before .before)), toZ-ofZ (s .fits .q))
+    (touched-ready _ _ _ _ _ _ _ (s .pre .0) _ _ (s .pre .2) (l .row) (l .k) (rw (toZ-ofZ (s .fits .q)) at (l .inv)) (c .before .before .before .loop-test .taken) (s .pre .1))
 
 add-k : tie.Need-add-k Inv-loop μ-loop
 add-k c =
-    let h = c .before .before .before .before .before .before .loop-test .taken in
-    omega (arith, arrays-few _ _ _ _ (c .before .before .before .before .before .before .before .before .before .before .before .pre .0 .arrays))
+    let h = c .before .before .before .before .before .loop-test .taken in
+    omega (arith, arrays-few _ _ _ _ (c .before .before .before .before .before .before .before .before .before .before .pre .0 .arrays))
 
 loop-less : tie.Need-loop-less Inv-loop μ-loop
-loop-less c = let h = c .before .before .before .before .before .before .loop-test .taken in omega arith
+loop-less c = let h = c .before .before .before .before .before .loop-test .taken in omega arith
 
 loop-again : tie.Need-loop-again Inv-loop μ-loop
 loop-again c =
-    let s = c .before .before .before .before .before .before .before .before .before .before .before in
-    let l = c .before .before .before .before .before .before .before .loop in
+    let s = c .before .before .before .before .before .before .before .before .before .before in
+    let l = c .before .before .before .before .before .before .loop in
     rw (toZ-ofZ (s .fits .q))
-    (touched-turn _ _ _ _ _ _ _ (s .pre .0) _ _ (s .pre .2) (l .row) (l .k) (rw (toZ-ofZ (s .fits .q)) at (l .inv)) (c .before .before .before .before .before .before .loop-test .taken) _
-    (c .before .add-link .ensures ∙ rw (toZ-ofZ (sub-less (c .before .before .before .before .before .before .before .before)), toZ-ofZ (s .fits .q), c .before .before .before .before .before .link-run .ensures) refl))
+    (touched-turn _ _ _ _ _ _ _ (s .pre .0) _ _ (s .pre .2) (l .row) (l .k) (rw (toZ-ofZ (s .fits .q)) at (l .inv)) (c .before .before .before .before .before .loop-test .taken) _
+    (c .before .add-link .ensures ∙ rw (toZ-ofZ (sub-less (c .before .before .before .before .before .before .before)), toZ-ofZ (s .fits .q)) refl))
 
 same-length : tie.Need-same-length Inv-loop μ-loop
 same-length c = c .before .loop .inv .size
@@ -85,12 +77,10 @@ add-touching-spec =
     Inv-loop
     μ-loop
     sub-less
+    cast-end
     loop-holds
-    link-run-requires
     shared-slice-read-add-link
-    cast-add-link
     shared-slice-read-add-link-2
-    cast-add-link-2
     add-link-requires
     add-k
     loop-less

@@ -3,7 +3,7 @@ use mathlib.Core.Path.{_≡_, ap}
 use native.Mathlib.Omega.{arith}
 use Rattle.qubo.specs.declared.Run.{Run}
 use Rattle.arcs.proofs.Slices.{ends-is, ends-few}
-use Rattle.neighbours.proofs.DegreeSums.{link-end, link-bits, link-set-is, link-set-low}
+use Rattle.neighbours.proofs.DegreeSums.{link-end, link-short, link-set-is, link-set-low}
 use borrow.Author.Needs.{needs}
 use Rattle.neighbours.proofs.degrees.link_set.Statement.{statement}
 use Rattle.neighbours.proofs.degrees.link_set.Tie as tie
@@ -39,7 +39,7 @@ set-count-requires c κs =
     let r = c .before .before .link-run in
     let at : r .result .start ≡ s .args .meters * suc (s .args .deepest) + 2 * s .args .k * s .args .deepest = ap (λ (q : Run). q .start) (r .ensures) in
     let to : r .result .start + r .result .count ≡ r .result .start + 2 * s .args .deepest = ap (λ (q : Run). r .result .start + q .count) (r .ensures) in
-    link-bits (s .args .meters) (s .args .deepest) (s .args .k) (s .args .bits .now) (r .result .start) (r .result .start + r .result .count) at to (s .pre .4) (s .pre .3)
+    link-short (s .args .meters) (s .args .deepest) (s .args .k) (s .args .bits .now) (r .result .start) (r .result .start + r .result .count) at to (s .pre .4) (s .pre .1) (s .pre .3)
 
 returns : tie.Need-returns
 returns c =

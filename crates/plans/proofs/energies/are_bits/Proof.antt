@@ -1,27 +1,27 @@
-use Prim.Native.Nat.{ℕ, _≤_, _<_, _-_}
-use mathlib.Core.Path.{sym}
+use Prim.Native.Nat.{_≤_, _-_, _+_}
+use mathlib.Core.Path.{subst, sym}
+use mathlib.Core.Logic.{⊎-elim}
 use native.Mathlib.Omega.{arith}
-use borrow.Author.Count.{below-more}
-use lib.ListN.{length, getD}
-use Rattle.plans.proofs.Checked.{are-bits, are-no-bits}
+use lib.ListN.{length}
+use Rattle.plans.proofs.Checked.{Topped, topped-start, topped-more, topped-same, topped-end}
 use Rattle.plans.proofs.energies.are_bits.Statement.{statement}
 use Rattle.plans.proofs.energies.are_bits.Tie as tie
 
--- the bytes passed are 0 or 1
+-- top is the greatest of the bytes passed, as far as it matters
 abbrev Inv-loop : tie.InvT-loop
-Inv-loop bits i₀ i = (i ≤ length bits) × ((k : ℕ) → k < i → getD bits k 0 ≤ 1)
+Inv-loop bits top₀ i₀ top i = (i ≤ length bits) × Topped bits i top
 
 abbrev μ-loop : tie.MeasureT-loop
-μ-loop bits i₀ i = length bits - i
+μ-loop bits top₀ i₀ top i = length bits - i
 
 loop-holds : tie.Need-loop-holds Inv-loop μ-loop
-loop-holds c = (omega arith, λ k h. absurd (omega arith))
+loop-holds c = (omega arith, topped-start _)
 
 shared-slice-read-if1 : tie.Need-shared-slice-read-if1 Inv-loop μ-loop
 shared-slice-read-if1 c = omega arith
 
-returns : tie.Need-returns Inv-loop μ-loop
-returns c = sym (are-no-bits _ (c .before .before .before .loop .i) (omega arith))
+shared-slice-read-top : tie.Need-shared-slice-read-top Inv-loop μ-loop
+shared-slice-read-top c = omega arith
 
 add-i : tie.Need-add-i Inv-loop μ-loop
 add-i c = omega arith
@@ -31,11 +31,17 @@ loop-less c = omega arith
 
 loop-again : tie.Need-loop-again Inv-loop μ-loop
 loop-again c =
-    let l = c .before .before .before .loop in
-    (omega arith, below-more (λ k. getD (c .before .before .before .before .args .bits .now) k 0 ≤ 1) (l .i) (l .inv .1) (omega arith))
+    let x = c .before .before .before .before .args .bits .now in
+    let l = c .before .before .before .loop in (
+      omega arith,
+      ⊎-elim
+          (λ w. subst (Topped x (l .i + 1)) (sym (w .2)) (topped-more x (l .i) (l .top) (l .inv .1) (w .0 .taken)))
+          (λ w. subst (Topped x (l .i + 1)) (sym (w .1)) (topped-same x (l .i) (l .top) (l .inv .1) (omega (arith, w .0 .left))))
+          (c .if1 .came),
+    )
 
-returns-2 : tie.Need-returns-2 Inv-loop μ-loop
-returns-2 c = sym (are-bits _ (λ k h. c .before .loop .inv .1 k (omega arith)))
+returns : tie.Need-returns Inv-loop μ-loop
+returns c = topped-end _ _ _ (omega arith) (c .before .loop .inv .1)
 
 pub are-bits-spec : {M : Type 1} → statement M
 are-bits-spec =
@@ -45,8 +51,8 @@ are-bits-spec =
     μ-loop
     loop-holds
     shared-slice-read-if1
-    returns
+    shared-slice-read-top
     add-i
     loop-less
     loop-again
-    returns-2)
+    returns)

@@ -1,7 +1,7 @@
 use Prim.Native.Nat.{_+_, _-_}
 use mathlib.Core.Path.{refl, _∙_}
 use native.Mathlib.Omega.{arith}
-use Rattle.arcs.proofs.Slices.{slice-bits}
+use Rattle.arcs.proofs.Slices.{slice-short}
 use Rattle.tree.proofs.ReadParents.{cut-set, one-parent, entry-added}
 use borrow.Author.Needs.{needs}
 use Rattle.tree.proofs.codes.read_arc.Statement.{statement}
@@ -20,7 +20,7 @@ part-set-count-end : tie.Need-part-set-count-end
 part-set-count-end c = search needs
 
 set-count-requires : tie.Need-set-count-requires
-set-count-requires c κs = let s = c .before .before .before in slice-bits (s .args .bits .now) (s .args .start) (s .args .start + s .args .deepest) (s .args .deepest) refl (s .pre .0 .2) (s .pre .0 .0)
+set-count-requires c κs = let s = c .before .before .before in slice-short (s .args .bits .now) (s .args .start) (s .args .start + s .args .deepest) (s .args .deepest) refl (s .pre .0 .2) (omega arith) (s .pre .0 .0)
 
 sub-at : tie.Need-sub-at
 sub-at c = search needs

@@ -4,7 +4,7 @@ use native.Mathlib.Omega.{arith}
 use lib.ListN.{length}
 use Rattle.links.proofs.Walk.{link-at, arrays-few}
 use Rattle.arcs.proofs.ArcLists.{arcsLeft}
-use Rattle.tree.proofs.ReadParents.{readable, ReadTo, places-small, read-start, read-end, entries-small, first-asks, first-turn, second-asks, second-turn}
+use Rattle.tree.proofs.ReadParents.{readable, ReadTo, places-small, read-start, read-end, entries-small, link-asks, link-small, link-turn}
 use Rattle.tree.proofs.codes.read_parents.Statement.{statement}
 use Rattle.tree.proofs.codes.read_parents.Tie as tie
 
@@ -51,58 +51,34 @@ add-start c =
     let t = places-small _ _ _ _ _ _ r in
     omega (arith, t .0, t .1 (c .before .loop .k) (c .loop-test .taken), r .deep)
 
-shared-slice-read-read-arc : tie.Need-shared-slice-read-read-arc Inv-loop μ-loop
-shared-slice-read-read-arc c = omega arith
+shared-slice-read-read-link : tie.Need-shared-slice-read-read-link Inv-loop μ-loop
+shared-slice-read-read-link c = omega arith
 
-shared-slice-read-read-arc-2 : tie.Need-shared-slice-read-read-arc-2 Inv-loop μ-loop
-shared-slice-read-read-arc-2 c = omega (arith, c .before .before .before .before .before .before .before .before .before .before .before .before .before .pre .0 .same-v)
+shared-slice-read-read-link-2 : tie.Need-shared-slice-read-read-link-2 Inv-loop μ-loop
+shared-slice-read-read-link-2 c = omega (arith, c .before .before .before .before .before .before .before .before .before .before .before .before .before .pre .0 .same-v)
 
-read-arc-requires : tie.Need-read-arc-requires Inv-loop μ-loop
-read-arc-requires c κs =
+read-link-requires : tie.Need-read-link-requires Inv-loop μ-loop
+read-link-requires c κs =
     let r = readable _ _ _ _ _ _ _ (c .before .before .before .before .before .before .before .before .before .before .before .before .before .before .pre) in
     let l = c .before .before .before .before .loop in
     let h = c .before .before .before .loop-test .taken in
     let f = link-at _ _ _ _ (r .arrays) (l .k) h in (
-      first-asks _ _ _ _ _ _ r (l .k) h _ (l .inv .1),
-      (omega (arith, f, r .arrays .survey .meters-high), omega (arith, f), omega (arith, f, l .inv .1 .size), entries-small _ _ _ _ _ _ r _ _ (l .inv .1)),
-    )
-
-add-read-arc : tie.Need-add-read-arc Inv-loop μ-loop
-add-read-arc c =
-    let s = c .before .before .before .before .before .before .before .before .before .before .before .before .before .before .before .before .before in
-    let r = readable _ _ _ _ _ _ _ (s .pre) in
-    let t = places-small _ _ _ _ _ _ r in
-    omega (arith, t .0, t .1 (c .before .before .before .before .before .before .before .loop .k) (c .before .before .before .before .before .before .loop-test .taken), r .deep)
-
-shared-slice-read-read-arc-3 : tie.Need-shared-slice-read-read-arc-3 Inv-loop μ-loop
-shared-slice-read-read-arc-3 c = omega (arith, c .before .before .before .before .before .before .before .before .before .before .before .before .before .before .before .before .before .before .pre .0 .same-v)
-
-shared-slice-read-read-arc-4 : tie.Need-shared-slice-read-read-arc-4 Inv-loop μ-loop
-shared-slice-read-read-arc-4 c = omega arith
-
-read-arc-requires-2 : tie.Need-read-arc-requires-2 Inv-loop μ-loop
-read-arc-requires-2 c κs =
-    let r = readable _ _ _ _ _ _ _ (c .before .before .before .before .before .before .before .before .before .before .before .before .before .before .before .before .before .before .before .before .pre) in
-    let l = c .before .before .before .before .before .before .before .before .before .before .loop in
-    let h = c .before .before .before .before .before .before .before .before .before .loop-test .taken in
-    let i = first-turn _ _ _ _ _ _ r (l .k) h _ (l .inv .1) _ (c .before .before .before .before .before .read-arc .ensures) in
-    let f = link-at _ _ _ _ (r .arrays) (l .k) h in (
-      second-asks _ _ _ _ _ _ r (l .k) h _ i,
-      (omega (arith, f, r .arrays .survey .meters-high), omega (arith, f), omega (arith, f, i .size), entries-small _ _ _ _ _ _ r _ _ i),
+      link-asks _ _ _ _ _ _ r (l .k) h _ (l .inv .1),
+      (f .0, f .1, omega (arith, f, r .arrays .survey .meters-high), omega (arith, f, l .inv .1 .size), entries-small _ _ _ _ _ _ r _ _ (l .inv .1), link-small _ _ _ _ _ _ r (l .k) h _ (l .inv .1)),
     )
 
 add-k : tie.Need-add-k Inv-loop μ-loop
-add-k c = omega (arith, arrays-few _ _ _ _ (c .before .before .before .before .before .before .before .before .before .before .before .before .before .before .before .before .before .before .before .before .before .before .before .pre .0))
+add-k c = omega (arith, arrays-few _ _ _ _ (c .before .before .before .before .before .before .before .before .before .before .before .before .before .before .before .before .before .pre .0))
 
 loop-less : tie.Need-loop-less Inv-loop μ-loop
 loop-less c = omega arith
 
 loop-again : tie.Need-loop-again Inv-loop μ-loop
 loop-again c =
-    let r = readable _ _ _ _ _ _ _ (c .before .before .before .before .before .before .before .before .before .before .before .before .before .before .before .before .before .before .before .before .before .before .before .pre) in
-    let l = c .before .before .before .before .before .before .before .before .before .before .before .before .before .loop in
-    let h = c .before .before .before .before .before .before .before .before .before .before .before .before .loop-test .taken in
-    (omega (arith, h), second-turn _ _ _ _ _ _ r (l .k) h _ (first-turn _ _ _ _ _ _ r (l .k) h _ (l .inv .1) _ (c .before .before .before .before .before .before .before .before .read-arc .ensures)) _ (c .before .before .read-arc2 .ensures))
+    let r = readable _ _ _ _ _ _ _ (c .before .before .before .before .before .before .before .before .before .before .before .before .before .before .before .before .before .pre) in
+    let l = c .before .before .before .before .before .before .before .loop in
+    let h = c .before .before .before .before .before .before .loop-test .taken in
+    (omega (arith, h), link-turn _ _ _ _ _ _ r (l .k) h _ (l .inv .1) _ (c .before .before .read-link .ensures))
 
 same-length : tie.Need-same-length Inv-loop μ-loop
 same-length c = c .before .loop .inv .1 .size ∙ sym (c .before .before .before .before .before .before .before .before .before .before .before .pre .4)
@@ -126,13 +102,9 @@ read-parents-spec =
     mul-start
     mul-start-2
     add-start
-    shared-slice-read-read-arc
-    shared-slice-read-read-arc-2
-    read-arc-requires
-    add-read-arc
-    shared-slice-read-read-arc-3
-    shared-slice-read-read-arc-4
-    read-arc-requires-2
+    shared-slice-read-read-link
+    shared-slice-read-read-link-2
+    read-link-requires
     add-k
     loop-less
     loop-again

@@ -1,37 +1,34 @@
-use Prim.Native.Nat.{ℕ, _+_, _-_, _≤_}
+use Prim.Native.Nat.{ℕ, _-_, _≤_, _<_}
 use native.Mathlib.Omega.{arith}
-use mathlib.Core.Path.{sym, _∙_}
-use Rattle.lists.proofs.Tests.{each-next}
+use borrow.Author.Count.{below-more}
 use Rattle.tree.proofs.PlanTest.{DepthIn, depths-ring, depths-over, depths-yes}
 use Rattle.tree.proofs.plans.depths_within.Statement.{statement}
 use Rattle.tree.proofs.plans.depths_within.Tie as tie
 
 -- the meters passed have a depth up to D
 abbrev Inv-loop : tie.InvT-loop
-Inv-loop plan meters last v₀ v = (v ≤ meters) × ((u : ℕ) → 1 ≤ u → u ≤ v → DepthIn plan meters u)
+Inv-loop depths meters last v₀ v = (v ≤ meters) × ((i : ℕ) → i < v → DepthIn depths meters i)
 
 abbrev μ-loop : tie.MeasureT-loop
-μ-loop plan meters last v₀ v = meters - v
+μ-loop depths meters last v₀ v = meters - v
 
 add-last : tie.Need-add-last Inv-loop μ-loop
-add-last c = omega (arith, c .before .pre)
+add-last c = omega (arith, c .pre .0)
+
+cast-last : tie.Need-cast-last Inv-loop μ-loop
+cast-last c = omega (arith, c .pre .0)
 
 loop-holds : tie.Need-loop-holds Inv-loop μ-loop
-loop-holds c = (omega arith, λ u a b. absurd (omega arith))
+loop-holds c = (omega arith, λ i h. absurd (omega arith))
 
-add-depth-bit : tie.Need-add-depth-bit Inv-loop μ-loop
-add-depth-bit c = omega arith
-
-depth-bit-requires : tie.Need-depth-bit-requires Inv-loop μ-loop
-depth-bit-requires c κs = tt
+shared-slice-read-b : tie.Need-shared-slice-read-b Inv-loop μ-loop
+shared-slice-read-b c = omega (arith, c .before .before .before .pre .1)
 
 returns : tie.Need-returns Inv-loop μ-loop
-returns c = depths-ring _ _ (c .before .before .before .loop .v + 1) (omega arith) (omega arith) (sym (c .before .depth-bit .ensures .0) ∙ c .if1 .taken)
+returns c = λ p e. depths-ring _ p _ e (c .before .before .before .loop .v) (omega arith) (c .if1 .taken)
 
 returns-2 : tie.Need-returns-2 Inv-loop μ-loop
-returns-2 c =
-    let e = c .before .before .depth-bit .ensures .0 in
-    depths-over _ _ (c .before .before .before .before .loop .v + 1) (omega arith) (omega arith) (λ z. c .before .if1 .left (e ∙ z)) (omega (arith, e, c .if2 .taken))
+returns-2 c = λ p e. depths-over _ p _ e (c .before .before .before .before .loop .v) (omega arith) (c .before .if1 .left) (omega (arith, c .if2 .taken))
 
 add-v : tie.Need-add-v Inv-loop μ-loop
 add-v c = omega arith
@@ -41,13 +38,12 @@ loop-less c = omega arith
 
 loop-again : tie.Need-loop-again Inv-loop μ-loop
 loop-again c =
-    let s = c .before .before .before .before .before .before .args in
+    let s = c .before .before .before .before .before .args in
     let l = c .before .before .before .before .loop in
-    let e = c .before .before .depth-bit .ensures .0 in
-    (omega arith, each-next (DepthIn (s .plan .now) (s .meters)) (l .v) (l .inv .1) (λ z. c .before .if1 .left (e ∙ z), omega (arith, e, c .if2 .left)))
+    (omega arith, below-more (DepthIn (s .depths .now) (s .meters)) (l .v) (l .inv .1) (c .before .if1 .left, omega (arith, c .if2 .left)))
 
 returns-3 : tie.Need-returns-3 Inv-loop μ-loop
-returns-3 c = depths-yes _ _ (c .before .loop .v) (omega arith) (c .before .loop .inv .1)
+returns-3 c = λ p e. depths-yes _ p _ e (c .before .loop .v) (omega arith) (c .before .loop .inv .1)
 
 pub depths-within-spec : {M : Type 1} → statement M
 depths-within-spec =
@@ -56,9 +52,9 @@ depths-within-spec =
     Inv-loop
     μ-loop
     add-last
+    cast-last
     loop-holds
-    add-depth-bit
-    depth-bit-requires
+    shared-slice-read-b
     returns
     returns-2
     add-v

@@ -19,22 +19,28 @@ loop-holds : tie.Need-loop-holds Inv-loop μ-loop
 loop-holds c = (omega arith, omega arith, λ ws. summed-start _ _ ws _)
 
 shared-slice-read-is-parent : tie.Need-shared-slice-read-is-parent Inv-loop μ-loop
-shared-slice-read-is-parent c = omega (arith, c .before .before .before .before .before .before .pre .0)
+shared-slice-read-is-parent c = omega (arith, c .before .before .before .before .before .before .pre .1)
 
 shared-slice-read-is-parent-2 : tie.Need-shared-slice-read-is-parent-2 Inv-loop μ-loop
 shared-slice-read-is-parent-2 c = omega arith
 
 is-parent-requires : tie.Need-is-parent-requires Inv-loop μ-loop
-is-parent-requires c κs = tt
+is-parent-requires c κs =
+    let s = c .before .before .before .before .before .before .before in
+    let e = s .pre .0 (c .before .before .before .loop .k) (omega arith) in
+    (e .0, omega (arith, e))
 
 shared-slice-read-is-parent-3 : tie.Need-shared-slice-read-is-parent-3 Inv-loop μ-loop
 shared-slice-read-is-parent-3 c = omega arith
 
 shared-slice-read-is-parent-4 : tie.Need-shared-slice-read-is-parent-4 Inv-loop μ-loop
-shared-slice-read-is-parent-4 c = omega (arith, c .before .before .before .before .before .before .before .before .before .before .pre .0)
+shared-slice-read-is-parent-4 c = omega (arith, c .before .before .before .before .before .before .before .before .before .before .pre .1)
 
 is-parent-requires-2 : tie.Need-is-parent-requires-2 Inv-loop μ-loop
-is-parent-requires-2 c κs = tt
+is-parent-requires-2 c κs =
+    let s = c .before .before .before .before .before .before .before .before .before .before in
+    let e = s .pre .0 (c .before .before .before .before .before .before .loop .k) (omega arith) in
+    (omega (arith, e), e .2)
 
 add-count : tie.Need-add-count Inv-loop μ-loop
 add-count c =
@@ -48,10 +54,10 @@ add-count-2 c =
     let a = c .before .before .before .before .before .before .before .before .before .before .before .args in
     let u = getD (a .us .now) (c .before .before .before .before .before .before .before .loop .k) 0 in
     let v = getD (a .vs .now) (c .before .before .before .before .before .before .before .loop .k) 0 in
-    omega (arith, c .before .before .before .is-parent .ensures, c .is-parent2 .ensures, same-le (nth (a .plan .now) u) v, same-le (nth (a .plan .now) v) u, c .before .before .before .before .before .before .before .loop .inv .1, c .before .before .before .before .before .before .before .before .before .before .before .pre .1)
+    omega (arith, c .before .before .before .is-parent .ensures, c .is-parent2 .ensures, same-le (nth (a .plan .now) u) v, same-le (nth (a .plan .now) v) u, c .before .before .before .before .before .before .before .loop .inv .1, c .before .before .before .before .before .before .before .before .before .before .before .pre .2)
 
 add-k : tie.Need-add-k Inv-loop μ-loop
-add-k c = omega (arith, c .before .before .before .before .before .before .before .before .before .before .before .pre .1)
+add-k c = omega (arith, c .before .before .before .before .before .before .before .before .before .before .before .pre .2)
 
 loop-less : tie.Need-loop-less Inv-loop μ-loop
 loop-less c = omega arith

@@ -1,0 +1,59 @@
+/* Four meters in a square, two radio channels: the table's head, a plan's code, a damaged bit, and the plan repaired. */
+#include <inttypes.h>
+#include <stdio.h>
+#include <stdlib.h>
+
+#include "meterplan.h"
+
+enum { METERS = 4, CHANNELS = 2, BITS = METERS * CHANNELS };
+
+/* A refusal here would be a mistake of this program: say which, and stop. */
+static void expect(const char *call, uint64_t refusal)
+{
+    if (refusal != 0) {
+        fprintf(stderr, "%s: refused %" PRIu64 "\n", call, refusal);
+        exit(1);
+    }
+}
+
+static int64_t number(const char *call, mp_number n)
+{
+    expect(call, n.refusal);
+    return n.value;
+}
+
+static void print_bytes(const char *name, const uint8_t *bytes, size_t len)
+{
+    printf("%s", name);
+    for (size_t i = 0; i < len; i++)
+        printf(" %d", bytes[i]);
+    printf("\n");
+}
+
+int main(void)
+{
+    uint8_t image[MP_IMAGE], bits[BITS], plan[METERS] = {1, 2, 1, 2};
+    int64_t row[BITS];
+
+    expect("begin", mp_begin(image, sizeof image, METERS));
+    for (unsigned v = 1; v <= METERS; v++)
+        expect("add", mp_add(image, sizeof image, v, v % METERS + 1, 3));
+
+    printf("Q %" PRId64, number("bits", mp_bits(image, sizeof image, MP_CHANNELS, CHANNELS)));
+    printf(" %" PRId64 "\n", number("constant", mp_constant(image, sizeof image, MP_CHANNELS, CHANNELS)));
+    expect("row", mp_row(image, sizeof image, MP_CHANNELS, CHANNELS, 0, row, BITS));
+    for (int j = 0; j < BITS; j++)
+        if (row[j] != 0)
+            printf("0 %d %" PRId64 "\n", j, row[j]);
+
+    expect("code", mp_code(image, sizeof image, MP_CHANNELS, CHANNELS, plan, sizeof plan, bits, sizeof bits));
+    print_bytes("code", bits, sizeof bits);
+
+    bits[4] = 0; /* meter 3 falls silent */
+    printf("damaged: energy %" PRId64 "\n", number("energy", mp_energy(image, sizeof image, MP_CHANNELS, CHANNELS, bits, sizeof bits)));
+    mp_plan decoded = mp_decode(image, sizeof image, MP_CHANNELS, CHANNELS, bits, sizeof bits, plan, sizeof plan);
+    expect("decode", decoded.refusal);
+    print_bytes("plan", plan, sizeof plan);
+    printf("weight %" PRIu64 ", repaired %" PRIu64 "\n", decoded.weight, decoded.repaired);
+    return 0;
+}
