@@ -43,7 +43,7 @@ read-arc-requires-2 : tie.Need-read-arc-requires-2
 read-arc-requires-2 c κs =
     let p = c .before .before .before .before .before .before .before .before .before .before .pre in
     let r = c .before .before .before .read-arc in
-    ((p .0 .0, p .0 .1, p .0 .2, p .0 .4), (p .1 .2, p .1 .0, omega (arith, p .1 .1, p .1 .3, r .kept .1 .1 .1 .1 .1 .0), read-small _ _ (r .ensures) (p .1 .5)))
+    ((p .0 .0, p .0 .1, p .0 .2, p .0 .4), (omega (arith, p .1 .1, p .1 .2), omega (arith, p .1 .0, p .1 .1), omega (arith, p .1 .1, p .1 .3, r .kept .1 .1 .1 .1 .1 .0), read-small _ _ (r .ensures) (p .1 .5)))
 
 same-length : tie.Need-same-length
 same-length c = search needs
