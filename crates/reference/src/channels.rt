@@ -4,7 +4,7 @@ use crate::numbers;
 use crate::sites;
 
 // "A is 1 plus the greatest sum of link weights at one meter."
-pub fn penalty(weights: &[u16; 64]) -> u64 {
+pub fn penalty(weights: &[u16; 2500]) -> u64 {
     let mut greatest = 0;
     let mut v: usize = 1;
     while v < 8 {
@@ -18,7 +18,7 @@ pub fn penalty(weights: &[u16; 64]) -> u64 {
 }
 
 // "A times the sum over meters of (1 - bits set at it)², plus, for each link and channel, the weight if both ends have that channel."
-pub fn energy(weights: &[u16; 64], meters: usize, n: usize, bits: &[u8]) -> u64 {
+pub fn energy(weights: &[u16; 2500], meters: usize, n: usize, bits: &[u8]) -> u64 {
     let penalties = numbers::times(penalty(weights), choices::misses(bits, meters, n));
     numbers::plus(penalties, choices::link_sum(weights, n, bits, 2))
 }
@@ -33,7 +33,7 @@ fn bears(bits: &[u8], n: usize, plan: &[u8; 8], u: usize, v: usize, i: usize) ->
 }
 
 // The total weight of links of meter v to neighbours bearing channel i.
-fn heard(weights: &[u16; 64], n: usize, bits: &[u8], plan: &[u8; 8], v: usize, i: usize) -> u64 {
+fn heard(weights: &[u16; 2500], n: usize, bits: &[u8], plan: &[u8; 8], v: usize, i: usize) -> u64 {
     let mut sum = 0;
     let mut u: usize = 1;
     while u < 8 {
@@ -46,7 +46,7 @@ fn heard(weights: &[u16; 64], n: usize, bits: &[u8], plan: &[u8; 8], v: usize, i
 }
 
 // "the channel with the least total weight of links to neighbours bearing it, ties to the lowest channel".
-fn quietest(weights: &[u16; 64], n: usize, bits: &[u8], plan: &[u8; 8], v: usize) -> usize {
+fn quietest(weights: &[u16; 2500], n: usize, bits: &[u8], plan: &[u8; 8], v: usize) -> usize {
     let mut channel: usize = 1;
     let mut least = heard(weights, n, bits, plan, v, 1);
     let mut i: usize = 1;
@@ -74,7 +74,7 @@ fn lowest(bits: &[u8], n: usize, v: usize) -> usize {
 }
 
 // "Just one bit set: kept. Several: the lowest channel set is kept. None: the channel with the least total weight".
-pub fn mended(weights: &[u16; 64], n: usize, bits: &[u8], plan: &[u8; 8], v: usize) -> usize {
+pub fn mended(weights: &[u16; 2500], n: usize, bits: &[u8], plan: &[u8; 8], v: usize) -> usize {
     let i = lowest(bits, n, v);
     if i == 0 {
         quietest(weights, n, bits, plan, v)

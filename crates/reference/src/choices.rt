@@ -41,16 +41,16 @@ fn having(bits: &[u8], n: usize, u: usize, v: usize, ends: u64) -> u64 {
 }
 
 // For each link and channel or group, the weight if it has just so many of the link's ends.
-pub fn link_sum(weights: &[u16; 64], n: usize, bits: &[u8], ends: u64) -> u64 {
+pub fn link_sum(weights: &[u16; 2500], n: usize, bits: &[u8], ends: u64) -> u64 {
     let mut sum = 0;
-    let mut place: usize = 0;
-    while place < 64 {
-        let weight = sites::link_at(weights, place);
+    let mut pair: usize = 0;
+    while pair < 64 {
+        let weight = sites::link_at(weights, pair);
         if weight != 0 {
-            let count = having(bits, n, place / 8, place % 8, ends);
+            let count = having(bits, n, pair / 8, pair % 8, ends);
             sum = numbers::plus(sum, numbers::times(weight, count));
         }
-        place += 1;
+        pair += 1;
     }
     sum
 }
@@ -68,15 +68,15 @@ pub fn in_range(plan: &[u8; 8], meters: usize, n: usize) -> bool {
 }
 
 // The weight of the links whose ends have the same number, or of those whose ends have not.
-pub fn weight(weights: &[u16; 64], plan: &[u8; 8], same: bool) -> u64 {
+pub fn weight(weights: &[u16; 2500], plan: &[u8; 8], same: bool) -> u64 {
     let mut sum = 0;
-    let mut place: usize = 0;
-    while place < 64 {
-        let u = numbers::byte_at(plan, place / 8);
-        if (u == numbers::byte_at(plan, place % 8)) == same {
-            sum = numbers::plus(sum, sites::link_at(weights, place));
+    let mut pair: usize = 0;
+    while pair < 64 {
+        let u = numbers::byte_at(plan, pair / 8);
+        if (u == numbers::byte_at(plan, pair % 8)) == same {
+            sum = numbers::plus(sum, sites::link_at(weights, pair));
         }
-        place += 1;
+        pair += 1;
     }
     sum
 }

@@ -4,7 +4,7 @@ use crate::numbers;
 use crate::sites;
 
 // "A is 1 plus twice the sum of all weights."
-pub fn penalty(weights: &[u16; 64]) -> u64 {
+pub fn penalty(weights: &[u16; 2500]) -> u64 {
     numbers::plus(1, numbers::times(2, sites::total(weights)))
 }
 
@@ -37,7 +37,7 @@ fn gaps(bits: &[u8], meters: usize, m: usize) -> u64 {
 }
 
 // "A times [the sum over meters of (1 - bits set)² plus the sum over pairs of groups of (size difference)²], plus, for each link and group, the weight if exactly one end is in it."
-pub fn energy(weights: &[u16; 64], meters: usize, m: usize, bits: &[u8]) -> u64 {
+pub fn energy(weights: &[u16; 2500], meters: usize, m: usize, bits: &[u8]) -> u64 {
     let sums = numbers::plus(choices::misses(bits, meters, m), gaps(bits, meters, m));
     let penalties = numbers::times(penalty(weights), sums);
     numbers::plus(penalties, choices::link_sum(weights, m, bits, 1))

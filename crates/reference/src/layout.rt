@@ -30,37 +30,37 @@ fn links_end(meters: usize, links: u64) -> usize
 }
 
 // Where the bits of the link of u and v begin.
-pub fn link_number(weights: &[u16; 64], meters: usize, u: usize, v: usize) -> usize
+pub fn link_number(weights: &[u16; 2500], meters: usize, u: usize, v: usize) -> usize
     ensures { λ r. ⌜ r < 17179869184 ⌝ }
 {
-    let place = if u < v {
+    let pair = if u < v {
         numbers::cell(u, 8, v)
     } else {
         numbers::cell(v, 8, u)
     };
-    links_end(meters, sites::links_before(weights, place))
+    links_end(meters, sites::links_before(weights, pair))
 }
 
 // The number of the bit that is the arc from u to v at depth i.
-pub fn arc_number(weights: &[u16; 64], meters: usize, u: usize, v: usize, i: usize) -> usize {
+pub fn arc_number(weights: &[u16; 2500], meters: usize, u: usize, v: usize, i: usize) -> usize {
     let direction = if u < v { 0 } else { 1 };
     let depths = greatest_depth(meters);
     link_number(weights, meters, u, v) + numbers::cell(direction, depths, numbers::before(i))
 }
 
 // Where the neighbour counts' bits begin.
-fn arcs_end(weights: &[u16; 64], meters: usize) -> usize
+fn arcs_end(weights: &[u16; 2500], meters: usize) -> usize
     ensures { λ r. ⌜ r < 17179869184 ⌝ }
 {
     links_end(meters, sites::links_before(weights, 64))
 }
 
 // The number of the bit that is meter v having exactly j neighbours.
-pub fn count_number(weights: &[u16; 64], meters: usize, d: usize, v: usize, j: usize) -> usize {
+pub fn count_number(weights: &[u16; 2500], meters: usize, d: usize, v: usize, j: usize) -> usize {
     arcs_end(weights, meters) + numbers::cell(numbers::before(v), d, numbers::before(j))
 }
 
 // How many bits there are.
-pub fn bit_count(weights: &[u16; 64], meters: usize, d: usize) -> usize {
+pub fn bit_count(weights: &[u16; 2500], meters: usize, d: usize) -> usize {
     arcs_end(weights, meters) + numbers::cell(meters, d, 0)
 }

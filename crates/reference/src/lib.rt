@@ -1,6 +1,6 @@
 // A second implementation of the papers' definitions (01), for sites of 1 to 6 meters: straight from its sentences, by trying everything, with no regard to speed. It is compared with the proved
 // library over random sites, so it shares no code with it. Its contracts say only what its callers need to be safe.
-// A site is its number of meters and the weight of the link of u < v at place 8u + v, 0 at every other place: no end is above the number of meters. A plan is eight bytes, of which the first `meters`
+// A site is its number of meters and the weight of the link of u < v at place 50u + v, 0 at every other place: no end is above the number of meters. A plan is eight bytes, of which the first `meters`
 // count. Bits are one byte each. Kinds are 1 (channels), 2 (groups) and 3 (tree); for another kind an answer is false, 0 or nothing set.
 ghost use Prim.Native.Nat.{_<_, _≤_};
 
@@ -52,7 +52,7 @@ fn small(count: usize) -> usize
 }
 
 // How many bits there are.
-pub fn bit_count(weights: &[u16; 64], meters: usize, kind: u64, parameter: usize) -> usize
+pub fn bit_count(weights: &[u16; 2500], meters: usize, kind: u64, parameter: usize) -> usize
     ensures { λ r. ⌜ r ≤ 4096 ⌝ }
 {
     if is_choice(kind) {
@@ -66,7 +66,7 @@ pub fn bit_count(weights: &[u16; 64], meters: usize, kind: u64, parameter: usize
 }
 
 // A.
-pub fn penalty(weights: &[u16; 64], meters: usize, kind: u64) -> u64 {
+pub fn penalty(weights: &[u16; 2500], meters: usize, kind: u64) -> u64 {
     if kind == 1 {
         return channels::penalty(weights);
     }
@@ -81,7 +81,13 @@ pub fn penalty(weights: &[u16; 64], meters: usize, kind: u64) -> u64 {
 }
 
 // The energy of an assignment.
-pub fn energy(weights: &[u16; 64], meters: usize, kind: u64, parameter: usize, bits: &[u8]) -> u64 {
+pub fn energy(
+    weights: &[u16; 2500],
+    meters: usize,
+    kind: u64,
+    parameter: usize,
+    bits: &[u8],
+) -> u64 {
     if kind == 1 {
         return channels::energy(weights, meters, parameter, bits);
     }
@@ -97,7 +103,7 @@ pub fn energy(weights: &[u16; 64], meters: usize, kind: u64, parameter: usize, b
 
 // Whether the bytes are a plan.
 pub fn is_plan(
-    weights: &[u16; 64],
+    weights: &[u16; 2500],
     meters: usize,
     kind: u64,
     parameter: usize,
@@ -117,7 +123,7 @@ pub fn is_plan(
 }
 
 // A plan's weight: "its clash weight (links with both ends on one channel), its cut weight (each cut link once) or its tree's weight (the links from meters to their parents)".
-pub fn weight(weights: &[u16; 64], meters: usize, kind: u64, plan: &[u8; 8]) -> u64 {
+pub fn weight(weights: &[u16; 2500], meters: usize, kind: u64, plan: &[u8; 8]) -> u64 {
     if is_choice(kind) {
         return choices::weight(weights, plan, kind == 1);
     }
@@ -130,7 +136,7 @@ pub fn weight(weights: &[u16; 64], meters: usize, kind: u64, plan: &[u8; 8]) -> 
 
 // Fills the bits with the code of a plan, zeros behind; only the first 128 bits are stored.
 pub fn code(
-    weights: &[u16; 64],
+    weights: &[u16; 2500],
     meters: usize,
     kind: u64,
     parameter: usize,
@@ -148,7 +154,7 @@ pub fn code(
 
 // Puts the channels that the bits are mended to into the plan. "The number mended is that of meters without exactly one bit set, counted in the bits lent."
 pub fn repair(
-    weights: &[u16; 64],
+    weights: &[u16; 2500],
     meters: usize,
     n: usize,
     bits: &[u8],
@@ -166,7 +172,7 @@ pub fn repair(
 }
 
 // The least weight of the spanning trees with no meter an end of more than d links, over all subsets of the links, of which there are at most 15.
-pub fn best_tree(weights: &[u16; 64], meters: usize, d: usize) -> Best {
+pub fn best_tree(weights: &[u16; 2500], meters: usize, d: usize) -> Best {
     let subsets = spanning::power_of_two(sites::links_before(weights, 64));
     let mut least = spanning::NONE;
     let mut subset: u64 = 0;

@@ -37,7 +37,7 @@ fn neighbours(meters: usize, plan: &[u8; 8], v: usize) -> u64 {
 }
 
 // Whether a meter is the root or its parent is a linked neighbour.
-fn parent_fits(weights: &[u16; 64], plan: &[u8; 8], v: usize) -> bool {
+fn parent_fits(weights: &[u16; 2500], plan: &[u8; 8], v: usize) -> bool {
     let parent = numbers::byte_at(plan, v);
     if parent == 0 {
         return true;
@@ -46,7 +46,7 @@ fn parent_fits(weights: &[u16; 64], plan: &[u8; 8], v: usize) -> bool {
 }
 
 // Whether a meter has a parent that fits, no more than d neighbours and a depth of at most D.
-fn meter_fits(weights: &[u16; 64], meters: usize, d: usize, plan: &[u8; 8], v: usize) -> bool {
+fn meter_fits(weights: &[u16; 2500], meters: usize, d: usize, plan: &[u8; 8], v: usize) -> bool {
     if !parent_fits(weights, plan, v) {
         return false;
     }
@@ -57,7 +57,7 @@ fn meter_fits(weights: &[u16; 64], meters: usize, d: usize, plan: &[u8; 8], v: u
 }
 
 // Whether a list of parents is a plan.
-pub fn is_plan(weights: &[u16; 64], meters: usize, d: usize, plan: &[u8; 8]) -> bool {
+pub fn is_plan(weights: &[u16; 2500], meters: usize, d: usize, plan: &[u8; 8]) -> bool {
     let mut roots = 0;
     let mut v: usize = 0;
     while v < meters {
@@ -71,7 +71,7 @@ pub fn is_plan(weights: &[u16; 64], meters: usize, d: usize, plan: &[u8; 8]) -> 
 }
 
 // "its tree's weight (the links from meters to their parents)".
-pub fn weight(weights: &[u16; 64], meters: usize, plan: &[u8; 8]) -> u64 {
+pub fn weight(weights: &[u16; 2500], meters: usize, plan: &[u8; 8]) -> u64 {
     let mut sum = 0;
     let mut v: usize = 0;
     while v < meters {
@@ -83,7 +83,7 @@ pub fn weight(weights: &[u16; 64], meters: usize, plan: &[u8; 8]) -> u64 {
 
 // "sets each meter's depth, the arc from its parent, if any, at that depth, and its number of neighbours in the tree", of one meter.
 fn code_meter(
-    weights: &[u16; 64],
+    weights: &[u16; 2500],
     meters: usize,
     d: usize,
     plan: &[u8; 8],
@@ -101,7 +101,7 @@ fn code_meter(
 }
 
 // The code of a tree.
-pub fn code(weights: &[u16; 64], meters: usize, d: usize, plan: &[u8; 8], bits: &mut [u8; 128]) {
+pub fn code(weights: &[u16; 2500], meters: usize, d: usize, plan: &[u8; 8], bits: &mut [u8; 128]) {
     let mut v: usize = 0;
     while v < meters {
         v += 1;

@@ -18,37 +18,38 @@ pub fn power_of_two(n: u64) -> u64 {
 }
 
 // The site with the links of a subset alone: link k in chain order, from 0, is in where 2^k is in the number.
-fn chosen(weights: &[u16; 64], subset: u64) -> [u16; 64] {
-    let mut kept = [0u16; 64];
+fn chosen(weights: &[u16; 2500], subset: u64) -> [u16; 2500] {
+    let mut kept = [0u16; 2500];
     let mut rest = subset;
-    let mut place: usize = 0;
-    while place < 64 {
-        if sites::link_at(weights, place) != 0 {
+    let mut pair: usize = 0;
+    while pair < 64 {
+        if sites::link_at(weights, pair) != 0 {
             if rest % 2 == 1 {
-                kept[place] = weights[place];
+                let at = 50 * (pair / 8) + pair % 8;
+                kept[at] = weights[at];
             }
             rest = rest / 2;
         }
-        place += 1;
+        pair += 1;
     }
     kept
 }
 
-// Marks every neighbour of a marked meter. Place 8u + v is here the way from u to v, whichever is less.
-fn spread(kept: &[u16; 64], marks: &mut [u8; 8]) {
-    let mut place: usize = 0;
-    while place < 64 {
-        if sites::weight_at(kept, place / 8, place % 8) != 0 {
-            if numbers::byte_at(marks, place / 8) == 1 {
-                numbers::put_byte(marks, place % 8, 1);
+// Marks every neighbour of a marked meter. Pair 8u + v is here the way from u to v, whichever is less.
+fn spread(kept: &[u16; 2500], marks: &mut [u8; 8]) {
+    let mut pair: usize = 0;
+    while pair < 64 {
+        if sites::weight_at(kept, pair / 8, pair % 8) != 0 {
+            if numbers::byte_at(marks, pair / 8) == 1 {
+                numbers::put_byte(marks, pair % 8, 1);
             }
         }
-        place += 1;
+        pair += 1;
     }
 }
 
 // The meters that can be reached from meter 1, in at most N steps.
-fn reached(kept: &[u16; 64], meters: usize) -> [u8; 8] {
+fn reached(kept: &[u16; 2500], meters: usize) -> [u8; 8] {
     let mut marks = [1u8, 0, 0, 0, 0, 0, 0, 0];
     let mut k: usize = 0;
     while k < meters {
@@ -59,7 +60,7 @@ fn reached(kept: &[u16; 64], meters: usize) -> [u8; 8] {
 }
 
 // Whether each meter is marked and an end of no more than d of the links.
-fn all_fit(kept: &[u16; 64], meters: usize, d: usize, marks: &[u8; 8]) -> bool {
+fn all_fit(kept: &[u16; 2500], meters: usize, d: usize, marks: &[u8; 8]) -> bool {
     let mut v: usize = 0;
     while v < meters {
         v += 1;
@@ -74,7 +75,7 @@ fn all_fit(kept: &[u16; 64], meters: usize, d: usize, marks: &[u8; 8]) -> bool {
 }
 
 // The weight of the links of a subset, where they are a spanning tree within the neighbour limit.
-pub fn tree_weight(weights: &[u16; 64], meters: usize, d: usize, subset: u64) -> u64 {
+pub fn tree_weight(weights: &[u16; 2500], meters: usize, d: usize, subset: u64) -> u64 {
     let kept = chosen(weights, subset);
     if numbers::plus(sites::links_before(&kept, 64), 1) != meters as u64 {
         return NONE;

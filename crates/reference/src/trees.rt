@@ -5,7 +5,7 @@ use crate::numbers;
 use crate::sites;
 
 // "A is 1 plus the sum of all weights."
-pub fn penalty(weights: &[u16; 64]) -> u64 {
+pub fn penalty(weights: &[u16; 2500]) -> u64 {
     numbers::plus(1, sites::total(weights))
 }
 
@@ -17,7 +17,7 @@ fn depth_bit(meters: usize, bits: &[u8], v: usize, i: usize) -> u64
 }
 
 // The bit of the arc from u to v at depth i, 0 where there is no such arc.
-fn arc_bit(weights: &[u16; 64], meters: usize, bits: &[u8], u: usize, v: usize, i: usize) -> u64 {
+fn arc_bit(weights: &[u16; 2500], meters: usize, bits: &[u8], u: usize, v: usize, i: usize) -> u64 {
     if sites::weight_at(weights, u, v) == 0 {
         return 0;
     }
@@ -25,7 +25,7 @@ fn arc_bit(weights: &[u16; 64], meters: usize, bits: &[u8], u: usize, v: usize, 
 }
 
 // How many bits of the two arcs of u and v are set.
-fn arcs_set(weights: &[u16; 64], meters: usize, bits: &[u8], u: usize, v: usize) -> u64 {
+fn arcs_set(weights: &[u16; 2500], meters: usize, bits: &[u8], u: usize, v: usize) -> u64 {
     if sites::weight_at(weights, u, v) == 0 {
         return 0;
     }
@@ -34,7 +34,7 @@ fn arcs_set(weights: &[u16; 64], meters: usize, bits: &[u8], u: usize, v: usize)
 }
 
 // The depth-i arcs into a meter.
-fn arcs_in(weights: &[u16; 64], meters: usize, bits: &[u8], v: usize, i: usize) -> u64 {
+fn arcs_in(weights: &[u16; 2500], meters: usize, bits: &[u8], v: usize, i: usize) -> u64 {
     let mut count = 0;
     let mut u: usize = 0;
     while u < meters {
@@ -45,7 +45,7 @@ fn arcs_in(weights: &[u16; 64], meters: usize, bits: &[u8], v: usize, i: usize) 
 }
 
 // "per meter and depth i ≥ 1 (its depth-i bit - depth-i arcs into it)²", of one meter.
-fn entries(weights: &[u16; 64], meters: usize, bits: &[u8], v: usize) -> u64 {
+fn entries(weights: &[u16; 2500], meters: usize, bits: &[u8], v: usize) -> u64 {
     let deepest = layout::greatest_depth(meters);
     let mut sum = 0;
     let mut i: usize = 0;
@@ -61,7 +61,7 @@ fn entries(weights: &[u16; 64], meters: usize, bits: &[u8], v: usize) -> u64 {
 }
 
 // All arc bits in or out of a meter.
-fn arcs_at(weights: &[u16; 64], meters: usize, bits: &[u8], v: usize) -> u64 {
+fn arcs_at(weights: &[u16; 2500], meters: usize, bits: &[u8], v: usize) -> u64 {
     let mut count = 0;
     let mut u: usize = 0;
     while u < meters {
@@ -72,7 +72,7 @@ fn arcs_at(weights: &[u16; 64], meters: usize, bits: &[u8], v: usize) -> u64 {
 }
 
 // Of one meter: "(1 - its neighbour-count bits)²" and "(sum of j over those set - all arc bits in or out of it)²".
-fn count_sum(weights: &[u16; 64], meters: usize, d: usize, bits: &[u8], v: usize) -> u64 {
+fn count_sum(weights: &[u16; 2500], meters: usize, d: usize, bits: &[u8], v: usize) -> u64 {
     let first = layout::count_number(weights, meters, d, v, 1);
     let counts = numbers::gap_squared(1, numbers::set(bits, first, 1, d));
     let arcs = arcs_at(weights, meters, bits, v);
@@ -90,7 +90,7 @@ fn depth_sum(meters: usize, bits: &[u8], v: usize) -> u64 {
 }
 
 // The second to fifth sums.
-fn meter_sums(weights: &[u16; 64], meters: usize, d: usize, bits: &[u8]) -> u64 {
+fn meter_sums(weights: &[u16; 2500], meters: usize, d: usize, bits: &[u8]) -> u64 {
     let mut sum = 0;
     let mut v: usize = 0;
     while v < meters {
@@ -108,7 +108,7 @@ fn missing_ends(meters: usize, bits: &[u8], u: usize, v: usize, i: usize) -> u64
 }
 
 // "per arc from u to v at depth i, its bit times (2 - [u at i-1] - [v at i])", of one arc.
-fn arc_sum(weights: &[u16; 64], meters: usize, bits: &[u8], u: usize, v: usize) -> u64 {
+fn arc_sum(weights: &[u16; 2500], meters: usize, bits: &[u8], u: usize, v: usize) -> u64 {
     let deepest = layout::greatest_depth(meters);
     let mut sum = 0;
     let mut i: usize = 0;
@@ -123,31 +123,31 @@ fn arc_sum(weights: &[u16; 64], meters: usize, bits: &[u8], u: usize, v: usize) 
     sum
 }
 
-// The sixth sum. Place 8u + v is here the arc from u to v, whichever is less.
-fn arc_sums(weights: &[u16; 64], meters: usize, bits: &[u8]) -> u64 {
+// The sixth sum. Pair 8u + v is here the arc from u to v, whichever is less.
+fn arc_sums(weights: &[u16; 2500], meters: usize, bits: &[u8]) -> u64 {
     let mut sum = 0;
-    let mut place: usize = 0;
-    while place < 64 {
-        sum = numbers::plus(sum, arc_sum(weights, meters, bits, place / 8, place % 8));
-        place += 1;
+    let mut pair: usize = 0;
+    while pair < 64 {
+        sum = numbers::plus(sum, arc_sum(weights, meters, bits, pair / 8, pair % 8));
+        pair += 1;
     }
     sum
 }
 
 // "the weight of every arc bit set", link by link.
-fn arc_weights(weights: &[u16; 64], meters: usize, bits: &[u8]) -> u64 {
+fn arc_weights(weights: &[u16; 2500], meters: usize, bits: &[u8]) -> u64 {
     let mut sum = 0;
-    let mut place: usize = 0;
-    while place < 64 {
-        let set = arcs_set(weights, meters, bits, place / 8, place % 8);
-        sum = numbers::plus(sum, numbers::times(sites::link_at(weights, place), set));
-        place += 1;
+    let mut pair: usize = 0;
+    while pair < 64 {
+        let set = arcs_set(weights, meters, bits, pair / 8, pair % 8);
+        sum = numbers::plus(sum, numbers::times(sites::link_at(weights, pair), set));
+        pair += 1;
     }
     sum
 }
 
 // "A times the sum of" the six sums, the first being "(1 - number of depth-0 bits)²", "plus the weight of every arc bit set".
-pub fn energy(weights: &[u16; 64], meters: usize, d: usize, bits: &[u8]) -> u64 {
+pub fn energy(weights: &[u16; 2500], meters: usize, d: usize, bits: &[u8]) -> u64 {
     let depths = layout::greatest_depth(meters) + 1;
     let first = numbers::gap_squared(1, numbers::set(bits, 0, depths, meters));
     let of_meters = numbers::plus(first, meter_sums(weights, meters, d, bits));

@@ -1,5 +1,7 @@
-// Prints words and numbers, of which the lines are made.
+// Prints what lines are made of.
 use libc::STDOUT_FILENO;
+use plans::Decoded;
+use plans::Number;
 
 // Words alone.
 pub fn words(text: &[u8]) {
@@ -12,20 +14,39 @@ pub fn named(text: &[u8], n: u64) {
     io::print_decimal(STDOUT_FILENO, n);
 }
 
-// The ends of a link, as they were given.
-pub fn ends(text: &[u8], u: u64, v: u64) {
-    named(text, u);
-    named(b"-", v);
+// The absolute value, of the least number too: -1 - z fits where 0 - z does not.
+fn magnitude(z: i64) -> u64 {
+    if z < 0 {
+        let m = -1 - z;
+        return (m as u64) + 1;
+    }
+    z as u64
 }
 
-// The end of a line: how many bytes were altered.
-pub fn altered(count: usize) {
-    named(b", ", count as u64);
-    words(b" bytes altered\n");
+// A space and a number with its sign: the crate io prints none.
+pub fn signed(z: i64) {
+    if z < 0 {
+        named(b" -", magnitude(z));
+        return;
+    }
+    named(b" ", magnitude(z));
 }
 
-// The end of a line of one call.
-pub fn result(returned: u64, count: usize) {
-    named(b": ", returned);
-    altered(count);
+// A value or a refusal.
+pub fn answer(given: Number) {
+    match given {
+        Number::Value(z) => signed(z),
+        Number::Refused(number) => named(b" refused ", number),
+    }
+}
+
+// A plan's weight and how many meters were repaired, or a refusal.
+pub fn decoded(given: Decoded) {
+    match given {
+        Decoded::Plan { weight, repaired } => {
+            named(b" ", weight);
+            named(b" ", repaired);
+        }
+        Decoded::Refused(number) => named(b" refused ", number),
+    }
 }

@@ -1,30 +1,86 @@
-// Makes the calls of `site` and of `plans` that the papers work through and many others, and prints what they give, so that the compiled library is compared with a stored file. The file was not copied
-// from a run: its lines were worked out from the papers, and the random edits, the tables and what all lists come to by separate models of the papers.
-mod answers;
+// Carries out the lines of its standard input, each a call of the library or what is lent to it, and prints every line with what the library answers. The stored input has the surveys that the papers
+// work through and many others, and the stored output what the papers say of them, by model.py beside it: it is not copied from a run. A new survey is a line of each file.
+mod asks;
 mod bests;
-mod broken;
-mod calls;
-mod copies;
-mod digits;
+mod bytes;
 mod edits;
-mod filling;
-mod inputs;
 mod lines;
-mod matrix;
-mod numbers;
-mod random;
 mod readings;
-mod refusals;
-mod sites;
-mod trials;
-mod worked;
+mod words;
 
-// Each part makes its own images, and they can be read in any order.
+ghost use Prim.Native.Nat.{_≤_};
+ghost use lib.ListN.{length};
+use libc::STDIN_FILENO;
+
+const NEWLINE: u8 = 10;
+
+// Where the line ends that begins at `start`.
+fn line_end(text: &[u8], start: usize) -> usize
+    requires { ⌜ start ≤ length (now text) ⌝ }
+    ensures { λ r. ⌜ (start ≤ r) × (r ≤ length (now (text .entry))) ⌝ }
+{
+    let mut i = start;
+    while i < text.len() {
+        if text[i] == NEWLINE {
+            return i;
+        }
+        i += 1;
+    }
+    i
+}
+
+// What the library answers, by the first letter of the line; there is nothing to answer to a remark.
+fn answer(image: &mut [u8], letter: u8, n: &[u64; 8], line: &[u8]) {
+    match letter {
+        b'a' | b'b' | b'r' => edits::show(image, letter, n),
+        b'c' => edits::circle(image, n),
+        b's' => edits::set(image, n),
+        b't' => edits::try_byte(image, n),
+        b'i' => readings::show(image),
+        b'k' => asks::show_kind(image, n),
+        b'f' => asks::show_row(image, n),
+        b'd' => asks::show_decode(image, n, line),
+        b'e' => asks::show_encode(image, n, line),
+        b'm' | b'p' => bests::show(image, letter, n),
+        _ => (),
+    }
+}
+
+// Carries out one line. Gives how many bytes are lent as the image from then on.
+fn carry_out(image: &mut [u8], lent: usize, line: &[u8]) -> usize
+    requires { ⌜ lent ≤ length (now image) ⌝ }
+    ensures { λ r. ⌜ r ≤ length (now (image .entry)) ⌝ }
+{
+    lines::words(line);
+    let letter = words::first(line);
+    let n = words::numbers_of(line);
+    if letter == b'l' {
+        lines::words(b"\n");
+        return bytes::within(n[1] as usize, image.len());
+    }
+    answer(&mut image[..lent], letter, &n, line);
+    lines::words(b"\n");
+    lent
+}
+
+// Line by line; the last one may have no end.
+fn carry_out_all(text: &[u8]) {
+    let mut image = [0u8; 2065];
+    let mut lent: usize = 2064;
+    let mut at: usize = 0;
+    while at < text.len() {
+        let end = line_end(text, at);
+        lent = carry_out(&mut image, lent, &text[at..end]);
+        if end == text.len() {
+            return;
+        }
+        at = end + 1;
+    }
+}
+
+// The whole input, for which there is room.
 fn main() {
-    edits::show();
-    filling::show();
-    broken::show();
-    trials::show();
-    worked::show();
-    refusals::show();
+    let mut text = [0u8; 32768];
+    let n = io::read_full(STDIN_FILENO, &mut text);
+    carry_out_all(&text[..n]);
 }

@@ -108,14 +108,14 @@ fn altered(c: Case, lent_bits: usize, lent_plan: usize, flaw: u64) -> Case {
 }
 
 // A row.
-fn ask_row(image: &[u8], weights: &[u16; 64], c: Case, counts: &mut [u64; 66]) {
+fn ask_row(image: &[u8], weights: &[u16; 2500], c: Case, counts: &mut [u64; 66]) {
     let row = draw_row(counts, c.bits);
     let lent = draw_length(counts, rows::row_length(c, row));
     rows::compare_row(image, weights, c, row, lent, counts);
 }
 
 // Bits, one of which has the value drawn.
-fn ask_bits(image: &[u8], weights: &[u16; 64], c: Case, counts: &mut [u64; 66]) {
+fn ask_bits(image: &[u8], weights: &[u16; 2500], c: Case, counts: &mut [u64; 66]) {
     let bits = assignments::draw_bits(c.bits, counts);
     let at = counts::below(counts, c.bits);
     let value = draw_value(counts);
@@ -126,7 +126,7 @@ fn ask_bits(image: &[u8], weights: &[u16; 64], c: Case, counts: &mut [u64; 66]) 
 }
 
 // A list, and bits.
-fn ask_plan(image: &[u8], weights: &[u16; 64], c: Case, counts: &mut [u64; 66]) {
+fn ask_plan(image: &[u8], weights: &[u16; 2500], c: Case, counts: &mut [u64; 66]) {
     let lent_bits = draw_length(counts, c.bits);
     let lent_plan = draw_length(counts, c.meters);
     let asked = altered(c, lent_bits, lent_plan, 0);
@@ -139,7 +139,7 @@ fn ask_plan(image: &[u8], weights: &[u16; 64], c: Case, counts: &mut [u64; 66]) 
 fn ask_all(
     image: &[u8; 2064],
     length: usize,
-    weights: &[u16; 64],
+    weights: &[u16; 2500],
     c: Case,
     counts: &mut [u64; 66],
 ) {
@@ -160,16 +160,11 @@ fn broken(image: &[u8; 2064], way: usize) -> [u8; 2064] {
     copy
 }
 
-// How many bytes of the image are lent.
-fn length_of(way: usize) -> usize {
-    if way == 8 { 2063 } else { 2064 }
-}
-
 // Draws one ask and makes its calls, with the image as it is, with a byte that breaks a rule, or without its last byte.
-fn ask_once(image: &[u8; 2064], weights: &[u16; 64], meters: usize, counts: &mut [u64; 66]) {
+fn ask_once(image: &[u8; 2064], weights: &[u16; 2500], meters: usize, counts: &mut [u64; 66]) {
     let way = counts::below(counts, 32);
     let copy = broken(image, way);
-    let length = length_of(way);
+    let length = if way == 8 { 2063 } else { 2064 };
     let kind = draw_kind(counts);
     let parameter = draw_parameter(counts);
     let c = cases::case_of(weights, meters, kind, parameter, 8 < way, 128);
@@ -179,7 +174,7 @@ fn ask_once(image: &[u8; 2064], weights: &[u16; 64], meters: usize, counts: &mut
 // All asks of a site.
 pub fn compare_asks(
     image: &[u8; 2064],
-    weights: &[u16; 64],
+    weights: &[u16; 2500],
     meters: usize,
     counts: &mut [u64; 66],
 ) {

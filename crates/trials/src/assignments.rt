@@ -60,7 +60,7 @@ pub fn with(l: Least, energy: u64, penalty: u64) -> Least {
 
 // Channels: plan, weight and number repaired as the reference says, and no more together than the energy.
 fn repair_agrees(
-    weights: &[u16; 64],
+    weights: &[u16; 2500],
     c: Case,
     bits: &[u8],
     plan: &[u8; 8],
@@ -81,7 +81,7 @@ fn repair_agrees(
 }
 
 // Groups and trees: the plan is one whose code the bits are, with its weight and 0 repaired.
-fn code_agrees(weights: &[u16; 64], c: Case, bits: &[u8; 128], plan: &[u8; 8], p: Plan) -> bool {
+fn code_agrees(weights: &[u16; 2500], c: Case, bits: &[u8; 128], plan: &[u8; 8], p: Plan) -> bool {
     let mut code = [0u8; 128];
     if !lists::code_of(weights, c, plan, &mut code) {
         return false;
@@ -107,7 +107,7 @@ fn last_number(c: Case, energy: u64) -> u64 {
 // Whether decode gives the plan, or the refusal's number and leaves the plan unaltered.
 fn decode_agrees(
     image: &[u8],
-    weights: &[u16; 64],
+    weights: &[u16; 2500],
     c: Case,
     bits: &[u8; 128],
     energy: u64,
@@ -130,7 +130,7 @@ fn decode_agrees(
 // One assignment; gives its energy.
 pub fn compare(
     image: &[u8],
-    weights: &[u16; 64],
+    weights: &[u16; 2500],
     c: Case,
     bits: &[u8; 128],
     counts: &mut [u64; 66],
@@ -191,7 +191,7 @@ pub fn power(base: usize, n: usize) -> usize {
 }
 
 // Every assignment.
-pub fn compare_all(image: &[u8], weights: &[u16; 64], c: Case, counts: &mut [u64; 66]) -> Least {
+pub fn compare_all(image: &[u8], weights: &[u16; 2500], c: Case, counts: &mut [u64; 66]) -> Least {
     let end = power(2, c.bits);
     let mut least = none();
     let mut k: usize = 0;
@@ -205,7 +205,7 @@ pub fn compare_all(image: &[u8], weights: &[u16; 64], c: Case, counts: &mut [u64
 }
 
 // Random assignments.
-pub fn compare_some(image: &[u8], weights: &[u16; 64], c: Case, counts: &mut [u64; 66]) {
+pub fn compare_some(image: &[u8], weights: &[u16; 2500], c: Case, counts: &mut [u64; 66]) {
     let mut k: usize = 0;
     while k < DRAWN {
         let bits = draw_bits(c.bits, counts);
@@ -231,7 +231,7 @@ fn flipped(bits: &[u8; 128], at: usize) -> u8 {
 // An assignment with each one of its bits flipped.
 pub fn compare_flipped(
     image: &[u8],
-    weights: &[u16; 64],
+    weights: &[u16; 2500],
     c: Case,
     bits: &[u8; 128],
     counts: &mut [u64; 66],

@@ -31,12 +31,7 @@ pub struct Plan {
     pub repaired: u64,
 }
 
-// A refusal with the number 0 is none: 99 stands for it.
-fn refusal(number: u64) -> u64 {
-    if number == 0 { 99 } else { number }
-}
-
-// What decode answers.
+// What decode answers. A refusal with the number 0 is none: 99 stands for it.
 fn plan_of(answer: Decoded) -> Plan {
     match answer {
         Decoded::Plan { weight, repaired } => Plan {
@@ -45,7 +40,7 @@ fn plan_of(answer: Decoded) -> Plan {
             repaired,
         },
         Decoded::Refused(number) => Plan {
-            refusal: refusal(number),
+            refusal: if number == 0 { 99 } else { number },
             weight: 0,
             repaired: 0,
         },

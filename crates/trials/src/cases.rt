@@ -14,14 +14,9 @@ fn refusal(valid: bool, allowed: bool) -> u64 {
     if allowed { 0 } else { 7 }
 }
 
-// The parameter for the reference, 0 where it is refused.
-fn size_of(parameter: u64, allowed: bool) -> usize {
-    if allowed { parameter as usize } else { 0 }
-}
-
 // The case of a kind and a parameter, with what it needs lent; small where it has at most so many bits.
 pub fn case_of(
-    weights: &[u16; 64],
+    weights: &[u16; 2500],
     meters: usize,
     kind: u64,
     parameter: u64,
@@ -29,7 +24,7 @@ pub fn case_of(
     most: usize,
 ) -> Case {
     let allowed = reference::allows(kind, parameter, meters);
-    let size = size_of(parameter, allowed);
+    let size = if allowed { parameter as usize } else { 0 };
     let bits = reference::bit_count(weights, meters, kind, size);
     Case {
         meters,
@@ -82,7 +77,7 @@ fn least_agrees(c: Case, all: Least, plans: Least) -> bool {
 }
 
 // Whether the least energy of the codes of trees is the weight of the best spanning tree, and there is a code just where there is such a tree.
-fn tree_agrees(weights: &[u16; 64], c: Case, plans: Least) -> bool {
+fn tree_agrees(weights: &[u16; 2500], c: Case, plans: Least) -> bool {
     if c.kind != 3 {
         return true;
     }
@@ -95,7 +90,7 @@ fn tree_agrees(weights: &[u16; 64], c: Case, plans: Least) -> bool {
 }
 
 // A case.
-pub fn compare_case(image: &[u8], weights: &[u16; 64], c: Case, counts: &mut [u64; 66]) {
+pub fn compare_case(image: &[u8], weights: &[u16; 2500], c: Case, counts: &mut [u64; 66]) {
     rows::compare_rows(image, weights, c, counts);
     let plans = lists::compare_lists(image, weights, c, counts);
     counts::compared(counts, counts::LEAST, tree_agrees(weights, c, plans));
@@ -109,8 +104,8 @@ pub fn compare_case(image: &[u8], weights: &[u16; 64], c: Case, counts: &mut [u6
 
 // All cases of a site: kinds 0 to 3, parameters 0 to 63, of which the refused ones have a number alone.
 pub fn compare_cases(
-    image: &[u8],
-    weights: &[u16; 64],
+    image: &[u8; 2064],
+    weights: &[u16; 2500],
     meters: usize,
     most: usize,
     counts: &mut [u64; 66],

@@ -1,94 +1,55 @@
-// Makes a site by random edits, of the image and of a matrix: the weight of the link of u < v stands at place 8u + v, 0 where there is none.
-ghost use Prim.Native.Nat.{_<_};
+// Edits of a site, of the image and of the matrix of matrix.rt, and the comparison of the two after each.
 use crate::bytes;
 use crate::counts;
+use crate::matrix;
 
-// How many edits are made of each site.
-const EDITS: usize = 20;
+// What an edit does.
+pub const BEGIN: usize = 0;
 
-// One edit: takes the link of u and v out, or puts it in.
-struct Edit {
-    removes: bool,
-    u: usize,
-    v: usize,
-    weight: u16,
-}
+pub const REMOVE: usize = 1;
 
-// Any 16 bits in one of 8 draws, else 0 to 9.
-fn draw_weight(counts: &mut [u64; 66]) -> u16 {
-    let way = counts::below(counts, 8);
-    let any = counts::below(counts, 65536);
-    if way == 0 {
-        return (any % 65536) as u16;
-    }
-    (any % 10) as u16
-}
+pub const ADD: usize = 2;
 
-// One of 4 edits removes; the ends are 0 to one above the meters.
-fn draw_edit(counts: &mut [u64; 66], meters: usize) -> Edit {
-    let ends = std::num::wrapping_add_usize(meters, 2);
-    let way = counts::below(counts, 4);
-    let u = counts::below(counts, ends);
-    let v = counts::below(counts, ends);
-    let weight = draw_weight(counts);
-    Edit {
-        removes: way == 0,
-        u,
-        v,
-        weight,
-    }
-}
-
-// Where the link of u and v stands, either way round.
-fn place(u: usize, v: usize) -> usize
-    ensures { λ r. ⌜ r < 64 ⌝ }
-{
-    if u < v {
-        8 * (u % 8) + v % 8
-    } else {
-        8 * (v % 8) + u % 8
-    }
-}
-
-// "an end is 0 or above N, or both are equal".
-fn bad_ends(meters: usize, u: usize, v: usize) -> bool {
-    if u == v {
-        return true;
-    }
-    if u < v {
-        return u < 1 || meters < v;
-    }
-    v < 1 || meters < u
+// One edit: a begin with that many meters, or it takes the link of u and v out, or puts it in.
+pub struct Edit {
+    pub what: usize,
+    pub meters: usize,
+    pub u: usize,
+    pub v: usize,
+    pub weight: u16,
 }
 
 // The number that the matrix says.
-fn expected(weights: &[u16; 64], meters: usize, e: Edit) -> u64 {
-    if bad_ends(meters, e.u, e.v) {
-        return 2;
+fn expected(weights: &[u16; 2500], meters: usize, e: Edit) -> u64 {
+    if e.what == BEGIN {
+        return if e.meters < 1 || 48 < e.meters { 7 } else { 0 };
     }
-    let at = place(e.u, e.v);
-    let weight = weights[at];
-    if e.removes {
-        return if weight == 0 { 5 } else { 0 };
+    if e.what == REMOVE {
+        return matrix::remove_number(weights, meters, e.u, e.v);
     }
-    if e.weight == 0 {
-        return 3;
-    }
-    if weight == 0 { 0 } else { 4 }
+    matrix::add_number(weights, meters, e.u, e.v, e.weight)
 }
 
 // The library's edit.
 fn call(image: &mut [u8], e: Edit) -> u64 {
-    if e.removes {
+    if e.what == BEGIN {
+        return plans::begin(image, e.meters as u64);
+    }
+    if e.what == REMOVE {
         return plans::remove(image, e.u as u64, e.v as u64);
     }
     plans::add(image, e.u as u64, e.v as u64, e.weight)
 }
 
-// The matrix's edit.
-fn store(weights: &mut [u16; 64], e: Edit) {
-    let at = place(e.u, e.v);
-    weights[at] = if e.removes { 0 } else { e.weight };
+// The matrix's edit, which gives the meters after it.
+fn store(weights: &mut [u16; 2500], meters: usize, e: Edit) -> usize {
+    if e.what == BEGIN {
+        *weights = [0; 2500];
+        return e.meters;
+    }
+    let weight = if e.what == REMOVE { 0 } else { e.weight };
+    matrix::store(weights, e.u, e.v, weight);
+    meters
 }
 
 // Whether the library's edit returns the number, and alters nothing where it is refused.
@@ -103,34 +64,47 @@ fn edit_agrees(image: &mut [u8; 2064], e: Edit, number: u64) -> bool {
     bytes::same(&old, image)
 }
 
-// One edit, of both.
-fn edit_both(
-    image: &mut [u8; 2064],
-    weights: &mut [u16; 64],
-    meters: usize,
-    counts: &mut [u64; 66],
-) {
-    let e = draw_edit(counts, meters);
-    let number = expected(weights, meters, e);
-    let agrees = edit_agrees(image, e, number);
-    counts::called(counts, counts::EDITS, number, agrees);
-    if number == 0 {
-        store(weights, e);
+// Whether the image is accepted, and is read as the matrix has it.
+fn site_agrees(image: &[u8], weights: &[u16; 2500], meters: usize) -> bool {
+    if site::check(image) != 0 {
+        return false;
     }
+    let mut us = [0u8; 256];
+    let mut vs = [0u8; 256];
+    let mut ws = [0u16; 256];
+    let r = site::read(image, &mut us, &mut vs, &mut ws);
+    if r.refusal != 0 {
+        return false;
+    }
+    if r.meters != meters {
+        return false;
+    }
+    matrix::same_links(weights, &us, &vs, &ws, r.count)
 }
 
-// Makes a site of both.
-pub fn make(
+// One edit, of both, which gives the meters after it.
+pub fn edit_both(
     image: &mut [u8; 2064],
-    weights: &mut [u16; 64],
+    weights: &mut [u16; 2500],
     meters: usize,
+    e: Edit,
     counts: &mut [u64; 66],
-) {
+) -> usize {
+    let number = expected(weights, meters, e);
+    let mut agrees = edit_agrees(image, e, number);
+    let mut after = meters;
+    if number == 0 {
+        after = store(weights, meters, e);
+    }
+    if agrees {
+        agrees = site_agrees(image, weights, after);
+    }
+    counts::called(counts, counts::EDITS, number, agrees);
+    after
+}
+
+// Begins the image of a site.
+pub fn begin(image: &mut [u8; 2064], meters: usize, counts: &mut [u64; 66]) {
     let number = plans::begin(image, meters as u64);
     counts::called(counts, counts::SITES, 0, number == 0);
-    let mut k: usize = 0;
-    while k < EDITS {
-        edit_both(image, weights, meters, counts);
-        k += 1;
-    }
 }

@@ -7,7 +7,7 @@ use crate::calls::Case;
 use crate::counts;
 
 // Fills the bits with the code of a list, as the reference says; whether the list is a plan.
-pub fn code_of(weights: &[u16; 64], c: Case, list: &[u8; 8], code: &mut [u8; 128]) -> bool {
+pub fn code_of(weights: &[u16; 2500], c: Case, list: &[u8; 8], code: &mut [u8; 128]) -> bool {
     reference::code(weights, c.meters, c.kind, c.size, list, code);
     reference::is_plan(weights, c.meters, c.kind, c.size, list)
 }
@@ -47,7 +47,7 @@ fn energy_agrees(c: Case, weight: u64, energy: u64) -> bool {
 // A plan's code; gives its energy.
 fn compare_code(
     image: &[u8],
-    weights: &[u16; 64],
+    weights: &[u16; 2500],
     c: Case,
     list: &[u8; 8],
     code: &[u8; 128],
@@ -70,7 +70,7 @@ fn compare_code(
 // A list; gives the energy of its code, where it is a plan and nothing is refused.
 pub fn compare_list(
     image: &[u8],
-    weights: &[u16; 64],
+    weights: &[u16; 2500],
     c: Case,
     list: &[u8; 8],
     counts: &mut [u64; 66],
@@ -97,7 +97,12 @@ fn base(c: Case) -> usize {
 }
 
 // All lists; gives the energies of the codes of those that are plans, all counted as below the penalty.
-pub fn compare_lists(image: &[u8], weights: &[u16; 64], c: Case, counts: &mut [u64; 66]) -> Least {
+pub fn compare_lists(
+    image: &[u8],
+    weights: &[u16; 2500],
+    c: Case,
+    counts: &mut [u64; 66],
+) -> Least {
     let width = base(c);
     let end = assignments::power(width, c.meters);
     let mut list = [0u8; 8];

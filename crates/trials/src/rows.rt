@@ -11,13 +11,13 @@ const LENT: usize = 160;
 const NO_BIT: usize = 127;
 
 // The energy of an assignment, of as many bits as there are.
-pub fn energy_of(weights: &[u16; 64], c: Case, bits: &[u8]) -> u64 {
+pub fn energy_of(weights: &[u16; 2500], c: Case, bits: &[u8]) -> u64 {
     let front = bytes::front(bits, c.bits);
     reference::energy(weights, c.meters, c.kind, c.size, front)
 }
 
 // The energy of the assignment in which just i and j are set, which may be the same bit, or no bit.
-fn energy_of_two(weights: &[u16; 64], c: Case, i: usize, j: usize) -> u64 {
+fn energy_of_two(weights: &[u16; 2500], c: Case, i: usize, j: usize) -> u64 {
     let mut bits = [0u8; 128];
     let first = i % 128;
     let second = j % 128;
@@ -27,7 +27,7 @@ fn energy_of_two(weights: &[u16; 64], c: Case, i: usize, j: usize) -> u64 {
 }
 
 // The number of bit i or of the pair of i and j, with the energies of no bit and of i alone.
-fn number_at(weights: &[u16; 64], c: Case, none: u64, own: u64, i: usize, j: usize) -> i64 {
+fn number_at(weights: &[u16; 2500], c: Case, none: u64, own: u64, i: usize, j: usize) -> i64 {
     if i == j {
         return calls::signed(own, none);
     }
@@ -48,7 +48,7 @@ struct Asked {
 }
 
 // The row in front, the pattern behind.
-fn expected_row(weights: &[u16; 64], c: Case, a: Asked) -> [i64; 160] {
+fn expected_row(weights: &[u16; 2500], c: Case, a: Asked) -> [i64; 160] {
     let i = a.i as usize;
     let none = energy_of_two(weights, c, NO_BIT, NO_BIT);
     let own = energy_of_two(weights, c, i, i);
@@ -141,7 +141,7 @@ fn fill_agrees(image: &[u8], c: Case, a: Asked, expected: &[i64; 160]) -> bool {
 // One row, with so many numbers lent: as it should be, or the refusal's number and nothing altered.
 pub fn compare_row(
     image: &[u8],
-    weights: &[u16; 64],
+    weights: &[u16; 2500],
     c: Case,
     i: u64,
     lent: usize,
@@ -164,7 +164,7 @@ pub fn compare_row(
 }
 
 // All rows.
-pub fn compare_rows(image: &[u8], weights: &[u16; 64], c: Case, counts: &mut [u64; 66]) {
+pub fn compare_rows(image: &[u8], weights: &[u16; 2500], c: Case, counts: &mut [u64; 66]) {
     let mut i: usize = 0;
     while i < c.bits {
         compare_row(image, weights, c, i as u64, LENT, counts);
@@ -187,7 +187,7 @@ fn table_agrees(image: &[u8], c: Case, none: u64) -> bool {
 }
 
 // Bit count, penalty and constant, which is the energy of all zeros.
-pub fn compare_table(image: &[u8], weights: &[u16; 64], c: Case, counts: &mut [u64; 66]) {
+pub fn compare_table(image: &[u8], weights: &[u16; 2500], c: Case, counts: &mut [u64; 66]) {
     let zeros = [0u8; 128];
     let none = energy_of(weights, c, &zeros);
     counts::called(

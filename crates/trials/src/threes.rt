@@ -1,11 +1,13 @@
 // Trees of three meters, with each set of their three links, at every assignment: few random sites have a tree and a table that is small enough for that.
 use crate::cases;
 use crate::counts;
+use crate::edits;
+use crate::edits::Edit;
 
 // Puts the link of u and v into both, with a drawn weight of 1 to 9, where the set has it.
 fn put(
     image: &mut [u8; 2064],
-    weights: &mut [u16; 64],
+    weights: &mut [u16; 2500],
     u: usize,
     v: usize,
     there: bool,
@@ -15,14 +17,18 @@ fn put(
         return;
     }
     let weight = (counts::below(counts, 9) % 9 + 1) as u16;
-    let number = plans::add(image, u as u64, v as u64, weight);
-    counts::called(counts, counts::EDITS, 0, number == 0);
-    let at = 8 * (u % 8) + v % 8;
-    weights[at] = weight;
+    let e = Edit {
+        what: edits::ADD,
+        meters: 3,
+        u,
+        v,
+        weight,
+    };
+    edits::edit_both(image, weights, 3, e, counts);
 }
 
 // The trees of a site with at most one neighbour, and with at most two.
-fn compare_limits(image: &[u8; 2064], weights: &[u16; 64], counts: &mut [u64; 66]) {
+fn compare_limits(image: &[u8; 2064], weights: &[u16; 2500], counts: &mut [u64; 66]) {
     let one = cases::case_of(weights, 3, 3, 1, true, 18);
     cases::compare_case(image, weights, one, counts);
     let two = cases::case_of(weights, 3, 3, 2, true, 18);
@@ -32,9 +38,8 @@ fn compare_limits(image: &[u8; 2064], weights: &[u16; 64], counts: &mut [u64; 66
 // One set of links: bit 0 of its number is the link of 1 and 2, bit 1 that of 1 and 3, bit 2 that of 2 and 3.
 fn compare_set(set: usize, counts: &mut [u64; 66]) {
     let mut image = [0u8; 2064];
-    let mut weights = [0u16; 64];
-    let number = plans::begin(&mut image, 3);
-    counts::called(counts, counts::SITES, 0, number == 0);
+    let mut weights = [0u16; 2500];
+    edits::begin(&mut image, 3, counts);
     put(&mut image, &mut weights, 1, 2, set % 2 == 1, counts);
     put(&mut image, &mut weights, 1, 3, set / 2 % 2 == 1, counts);
     put(&mut image, &mut weights, 2, 3, set / 4 % 2 == 1, counts);

@@ -4,10 +4,10 @@ use Rattle.reference.proofs.sites.links_before.Statement.{statement}
 use Rattle.reference.proofs.sites.links_before.Tie as tie
 
 abbrev Inv-loop : tie.InvT-loop
-Inv-loop weights end n₀ place₀ n place = Unit {0}
+Inv-loop weights end n₀ pair₀ n pair = Unit {0}
 
 abbrev μ-loop : tie.MeasureT-loop
-μ-loop weights end n₀ place₀ n place = end - place
+μ-loop weights end n₀ pair₀ n pair = end - pair
 
 loop-holds : tie.Need-loop-holds Inv-loop μ-loop
 loop-holds c = tt
@@ -18,8 +18,8 @@ link-at-requires c κs = search needs
 counted-requires : tie.Need-counted-requires Inv-loop μ-loop
 counted-requires c κs = search needs
 
-add-place : tie.Need-add-place Inv-loop μ-loop
-add-place c = search needs
+add-pair : tie.Need-add-pair Inv-loop μ-loop
+add-pair c = search needs
 
 loop-less : tie.Need-loop-less Inv-loop μ-loop
 loop-less c = search needs
@@ -39,7 +39,7 @@ links-before-spec =
     loop-holds
     link-at-requires
     counted-requires
-    add-place
+    add-pair
     loop-less
     loop-again
     returns)

@@ -4,10 +4,10 @@ use Rattle.reference.proofs.spanning.spread.Statement.{statement}
 use Rattle.reference.proofs.spanning.spread.Tie as tie
 
 abbrev Inv-loop : tie.InvT-loop
-Inv-loop kept marks₀ place₀ marks place = Unit {0}
+Inv-loop kept marks₀ pair₀ marks pair = Unit {0}
 
 abbrev μ-loop : tie.MeasureT-loop
-μ-loop kept marks₀ place₀ marks place = 64 - place
+μ-loop kept marks₀ pair₀ marks pair = 64 - pair
 
 loop-holds : tie.Need-loop-holds Inv-loop μ-loop
 loop-holds c = tt
@@ -21,8 +21,8 @@ byte-at-requires c κs = search needs
 put-byte-requires : tie.Need-put-byte-requires Inv-loop μ-loop
 put-byte-requires c κs = search needs
 
-add-place : tie.Need-add-place Inv-loop μ-loop
-add-place c = search needs
+add-pair : tie.Need-add-pair Inv-loop μ-loop
+add-pair c = search needs
 
 loop-less : tie.Need-loop-less Inv-loop μ-loop
 loop-less c = search needs
@@ -43,7 +43,7 @@ spread-spec =
     weight-at-requires
     byte-at-requires
     put-byte-requires
-    add-place
+    add-pair
     loop-less
     loop-again
     returns)

@@ -4,10 +4,10 @@ use Rattle.reference.proofs.trees.arc_sums.Statement.{statement}
 use Rattle.reference.proofs.trees.arc_sums.Tie as tie
 
 abbrev Inv-loop : tie.InvT-loop
-Inv-loop weights meters bits sum₀ place₀ sum place = Unit {0}
+Inv-loop weights meters bits sum₀ pair₀ sum pair = Unit {0}
 
 abbrev μ-loop : tie.MeasureT-loop
-μ-loop weights meters bits sum₀ place₀ sum place = 64 - place
+μ-loop weights meters bits sum₀ pair₀ sum pair = 64 - pair
 
 loop-holds : tie.Need-loop-holds Inv-loop μ-loop
 loop-holds c = tt
@@ -18,8 +18,8 @@ arc-sum-requires c κs = search needs
 plus-requires : tie.Need-plus-requires Inv-loop μ-loop
 plus-requires c κs = search needs
 
-add-place : tie.Need-add-place Inv-loop μ-loop
-add-place c = search needs
+add-pair : tie.Need-add-pair Inv-loop μ-loop
+add-pair c = search needs
 
 loop-less : tie.Need-loop-less Inv-loop μ-loop
 loop-less c = search needs
@@ -39,7 +39,7 @@ arc-sums-spec =
     loop-holds
     arc-sum-requires
     plus-requires
-    add-place
+    add-pair
     loop-less
     loop-again
     returns)

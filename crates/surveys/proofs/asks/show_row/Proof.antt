@@ -1,0 +1,35 @@
+use mathlib.Core.Path.{sym}
+use lib.Seq.{length-take-le}
+use native.Mathlib.Omega.{arith}
+use borrow.Author.Needs.{needs}
+use Rattle.surveys.proofs.asks.show_row.Statement.{statement}
+use Rattle.surveys.proofs.asks.show_row.Tie as tie
+
+element-copy-out-within : tie.Need-element-copy-out-within
+element-copy-out-within c = search needs
+
+within-requires : tie.Need-within-requires
+within-requires c κs = search needs
+
+array-borrow-prefix-places : tie.Need-array-borrow-prefix-places
+array-borrow-prefix-places c = search needs
+
+slice-aggregate-row-in : tie.Need-slice-aggregate-row-in
+slice-aggregate-row-in c = sym (length-take-le _ _ (omega arith))
+
+row-in-requires : tie.Need-row-in-requires
+row-in-requires c κs = search needs
+
+returns : tie.Need-returns
+returns c = search needs
+
+pub show-row-spec : {M : Type 1} → statement M
+show-row-spec =
+    tie.close
+    (tie.spec
+    element-copy-out-within
+    within-requires
+    array-borrow-prefix-places
+    slice-aggregate-row-in
+    row-in-requires
+    returns)

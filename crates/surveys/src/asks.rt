@@ -1,0 +1,79 @@
+// Calls that read an image for a kind and its parameter. What is lent is printed after the call, so that a line shows what was altered too: numbers lent are 77 at first, and bytes 7.
+ghost use Prim.Native.Nat.{_≤_};
+use crate::bytes;
+use crate::lines;
+use crate::words;
+
+// How many numbers of a row are printed.
+const SHOWN: usize = 12;
+
+// `kind K P`: the bit count, the constant and A.
+pub fn show_kind(image: &[u8], n: &[u64; 8]) {
+    lines::words(b":");
+    lines::answer(plans::bit_count(image, n[1], n[2]));
+    lines::answer(plans::constant(image, n[1], n[2]));
+    lines::answer(plans::penalty(image, n[1], n[2]));
+}
+
+// The first numbers of a slice.
+fn print_front(places: &[i64]) {
+    let count = bytes::within(places.len(), SHOWN);
+    let mut k = 0;
+    while k < count {
+        lines::signed(places[k]);
+        k += 1;
+    }
+}
+
+// How many numbers the row has that comes back.
+fn row_length(image: &[u8], n: &[u64; 8], places: &mut [i64]) -> u64 {
+    let row = plans::row(image, n[1], n[2], n[3], places);
+    row.len() as u64
+}
+
+// The number of a row that is not filled, the length of the part that comes back, the number of the call that fills it, and the places then.
+fn row_in(image: &[u8], n: &[u64; 8], places: &mut [i64]) {
+    lines::named(b": ", plans::row_refusal(image, n[1], n[2], n[3], places));
+    lines::named(b" ", row_length(image, n, places));
+    lines::named(b" ", plans::fill_row(image, n[1], n[2], n[3], places));
+    print_front(places);
+}
+
+// `fill K P I COUNT`: row I, in so many places.
+pub fn show_row(image: &[u8], n: &[u64; 8]) {
+    let mut places = [77i64; 8192];
+    let count = bytes::within(n[4] as usize, 8192);
+    row_in(image, n, &mut places[..count]);
+}
+
+// The energy, then the weight and how many meters were repaired, and the plan.
+fn decode_in(image: &[u8], n: &[u64; 8], bits: &[u8], plan: &mut [u8]) {
+    lines::words(b":");
+    lines::answer(plans::energy(image, n[1], n[2], bits));
+    lines::decoded(plans::decode(image, n[1], n[2], bits, plan));
+    bytes::print(plan);
+}
+
+// `decode K P BITS COUNT`: the bits, with so many bytes for a plan.
+pub fn show_decode(image: &[u8], n: &[u64; 8], line: &[u8]) {
+    let mut bits = [7u8; 128];
+    let mut plan = [7u8; 128];
+    let given = words::digits_of(line, &mut bits);
+    let count = bytes::within(n[4] as usize, 128);
+    decode_in(image, n, bytes::front_of(&bits, given), &mut plan[..count]);
+}
+
+// The number returned, and the bits.
+fn encode_in(image: &[u8], n: &[u64; 8], plan: &[u8], bits: &mut [u8]) {
+    lines::named(b": ", plans::encode(image, n[1], n[2], plan, bits));
+    bytes::print(bits);
+}
+
+// `encode K P PLAN COUNT`: the plan, with so many bytes for bits.
+pub fn show_encode(image: &[u8], n: &[u64; 8], line: &[u8]) {
+    let mut plan = [7u8; 128];
+    let mut bits = [7u8; 128];
+    let given = words::digits_of(line, &mut plan);
+    let count = bytes::within(n[4] as usize, 128);
+    encode_in(image, n, bytes::front_of(&plan, given), &mut bits[..count]);
+}

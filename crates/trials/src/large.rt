@@ -1,0 +1,46 @@
+// Two large sites, with 4,000 random edits each, whose draws begin with the same seed.
+use crate::counts;
+use crate::edits;
+use crate::edits::Edit;
+
+// How many edits are made of each site.
+const EDITS: usize = 4000;
+
+// One of 64 edits begins, with one of the 13 numbers of meters from `least` on, 23 remove and 40 add. The ends are 0 to one above the meters. Weight 0 stands in for every weight that 16 divides.
+fn draw_large(counts: &mut [u64; 66], meters: usize, least: usize) -> Edit {
+    let ends = std::num::wrapping_add_usize(meters, 2);
+    let way = counts::below(counts, 64);
+    let u = counts::below(counts, ends);
+    let v = counts::below(counts, ends);
+    let any = counts::below(counts, 65536) % 65536;
+    let more = counts::below(counts, 13);
+    let link = if way < 24 { edits::REMOVE } else { edits::ADD };
+    Edit {
+        what: if way == 0 { edits::BEGIN } else { link },
+        meters: std::num::wrapping_add_usize(least, more),
+        u,
+        v,
+        weight: if any % 16 == 0 { 0 } else { any as u16 },
+    }
+}
+
+// One site, begun with the meters given and later with `least` or more.
+fn compare_site(start: usize, least: usize, counts: &mut [u64; 66]) {
+    let mut image = [0u8; 2064];
+    let mut weights = [0u16; 2500];
+    edits::begin(&mut image, start, counts);
+    counts[65] = 1;
+    let mut meters = start;
+    let mut k: usize = 0;
+    while k < EDITS {
+        let e = draw_large(counts, meters, least);
+        meters = edits::edit_both(&mut image, &mut weights, meters, e, counts);
+        k += 1;
+    }
+}
+
+// A site where many adds meet a link that is there, and one of 48 meters, which fills up.
+pub fn compare_all(counts: &mut [u64; 66]) {
+    compare_site(12, 0, counts);
+    compare_site(48, 48, counts);
+}
