@@ -5,7 +5,7 @@ use mathlib.Core.List.{List}
 use lib.ListN.{length, getD, set, length-set}
 use native.Mathlib.Omega.{arith}
 use native.Mathlib.Decide.{ℕ-discrete, decLt}
-use native.Mathlib.Nat.{one-mul, zero-mul, add-zero}
+use native.Mathlib.Nat.{one-mul, zero-mul, mul-zero, add-zero}
 use borrow.Rule.Slice.PartMut.{putMid}
 use Rattle.lists.specs.Sums.{sumTo, same, gap}
 use Rattle.lists.proofs.Sums.{same-yes, same-no, same-le, sumTo-eq, sumOf-le, times-bit}
@@ -19,8 +19,10 @@ use Rattle.onehot.proofs.Parts.{part-within}
 use Rattle.arcs.specs.Arcs.{Arc, arcs, depthBit, arcBit, arcsEnd, depthAt, arcAt}
 use Rattle.arcs.specs.Sums.{entriesOf, entryGaps}
 use Rattle.arcs.specs.Lent.{Lent}
+use Rattle.arcs.specs.Walks.{linkSet, LinkFits, LinkAdded}
 use Rattle.arcs.proofs.Bound.{arcs-into}
 use Rattle.arcs.proofs.ArcLists.{arcUp, arcBack}
+use Rattle.arcs.proofs.LinkBits.{links-within, none-set}
 use Rattle.arcs.proofs.ArcSums.{ArcsSummed, summed-start, summed-turn, summed-end}
 use Rattle.arcs.proofs.Slices.{slice, slice-length, slice-at, slice-bits, put-length, put-before, put-inside, put-after, meter-within, depths-few, arc-within}
 
@@ -120,6 +122,58 @@ module _ (N D q c : ℕ) (x s : List ℕ) (few : N ≤ 48) (deep : D ≤ 24) (lo
       ],
     )
 
+-- ---- add_link: the two arcs of link k, between u and v
+
+-- what add_arc asks of arc q into c
+abbrev pub EntryFits : ℕ → ℕ → List ℕ → ℕ → ℕ → List ℕ → Type 0
+EntryFits N D x q c s = (N ≤ 48) × (D ≤ 24) × (q < 512) × (1 ≤ c) × (c ≤ N) × Bits x × (N * suc D + q * D + D ≤ length x) × (length s ≡ 1200) × ((t : ℕ) → 1 ≤ t → t ≤ D → getD s (depthBit D c t) 0 < 255)
+
+module _ (N D : ℕ) (x : List ℕ) (k u v : ℕ) (s : List ℕ) (f : LinkFits N D x k u v s) where
+  -- where none of their bits is set, there is nothing to add
+  pub none-added : (n : ℕ) → n ≡ linkSet N D x k → n ≡ 0 → LinkAdded N D x k u v s s
+  none-added n e z = record {
+    size = f .size;
+    each = λ w t a p l. let none = none-set N D x k (omega (arith, e)) t p l in rw (none .0, none .1, mul-zero, mul-zero) (omega arith);
+  }
+
+  -- the arc up
+  pub up-room : EntryFits N D x (2 * k) v s
+  up-room = (
+    f .meters,
+    f .deep,
+    omega (arith, f .few),
+    f .v-low,
+    f .v-high,
+    f .bits,
+    omega (arith, arc-within N D (k + 1) (2 * k) (omega arith), f .inside),
+    f .size,
+    λ t p q. omega (arith, f .small v t (f .v-low) p q),
+  )
+
+  module _ (t : List ℕ) (up : EntryAdded N D x (2 * k) v s t) where
+    -- and the arc back
+    pub back-room : EntryFits N D x (2 * k + 1) u t
+    back-room = (
+      f .meters,
+      f .deep,
+      omega (arith, f .few),
+      f .u-low,
+      f .u-high,
+      f .bits,
+      omega (arith, arc-within N D (k + 1) (2 * k + 1) (omega arith), f .inside),
+      up .0,
+      λ i p q. omega (
+        arith,
+        f .small u i (f .u-low) p q,
+        up .1 u i (f .u-low) p q,
+        times-bit (same v u) (getD x (N * suc D + 2 * k * D + pred i) 0) (f .bits (N * suc D + 2 * k * D + pred i)),
+        same-le v u,
+      ),
+    )
+
+    pub both-added : (r : List ℕ) → EntryAdded N D x (2 * k + 1) u t r → LinkAdded N D x k u v s r
+    both-added r back = record { size = back .0; each = λ w i a p l. omega (arith, up .1 w i a p l, back .1 w i a p l) }
+
 -- ---- gather_entries: the arcs of the first k links
 
 -- what arc a adds for meter v at depth i
@@ -158,57 +212,31 @@ entered-few : (N D : ℕ) (x us vs ws : List ℕ) → Survey N (linksOf us vs ws
 unfolding enters entriesOf
 entered-few N D x us vs ws y b k s g v i a p l = omega (arith, g .so-far v i a p l .whole, entries-few N D (linksOf us vs ws) x y b v i)
 
--- what add_arc asks of arc q into c
-abbrev pub EntryFits : ℕ → ℕ → List ℕ → ℕ → ℕ → List ℕ → Type 0
-EntryFits N D x q c s = (N ≤ 48) × (D ≤ 24) × (q < 512) × (1 ≤ c) × (c ≤ N) × Bits x × (N * suc D + q * D + D ≤ length x) × (length s ≡ 1200) × ((t : ℕ) → 1 ≤ t → t ≤ D → getD s (depthBit D c t) 0 < 255)
-
 module _ (N D : ℕ) (x us vs ws : List ℕ) (lent : Lent N D us vs ws) (b : Bits x) (fits : arcsEnd N D (length us) ≤ length x) (k : ℕ) (h : k < length us) (s : List ℕ) (g : EnteredTo N D x us vs ws k s) where
-  few : length us ≤ 256
-  few = arrays-few N us vs ws (lent .arrays)
-
-  room : (q c : ℕ) (t : List ℕ) → q < 2 * length us → 1 ≤ c → c ≤ N → length t ≡ 1200 → ((i : ℕ) → 1 ≤ i → i ≤ D → getD t (depthBit D c i) 0 < 255) → EntryFits N D x q c t
-  room q c t l a p e m = (
-    lent .arrays .survey .meters-high,
-    lent .deep,
-    omega (arith, few),
-    a,
-    p,
-    b,
-    omega (arith, arc-within N D (length us) q l),
-    e,
-    m,
-  )
-
-  counted : (v i : ℕ) → 1 ≤ v → 1 ≤ i → i ≤ D → getD s (depthBit D v i) 0 ≤ 47
-  counted = entered-few N D x us vs ws (lent .arrays .survey) b k s g
-
-  -- the arc up
-  pub up-room : EntryFits N D x (2 * k) (getD vs k 0) s
-  up-room =
+  -- what add_link asks
+  pub entered-room : LinkFits N D x k (getD us k 0) (getD vs k 0) s
+  entered-room =
       let l = link-at N us vs ws (lent .arrays) k h in
-      room (2 * k) (getD vs k 0) s (omega arith) (omega arith) (l .2) (g .size) (λ i p q. omega (arith, counted (getD vs k 0) i (omega (arith, l)) p q))
+      record {
+        meters = lent .arrays .survey .meters-high;
+        deep = lent .deep;
+        few = omega (arith, arrays-few N us vs ws (lent .arrays));
+        u-low = l .0;
+        u-high = omega (arith, l);
+        v-low = omega (arith, l);
+        v-high = l .2;
+        bits = b;
+        inside = links-within N D (length us) k (length x) h fits;
+        size = g .size;
+        small = entered-few N D x us vs ws (lent .arrays .survey) b k s g;
+      }
 
-  module _ (t : List ℕ) (up : EntryAdded N D x (2 * k) (getD vs k 0) s t) where
-    -- and the arc back
-    pub back-room : EntryFits N D x (2 * k + 1) (getD us k 0) t
-    back-room =
-        let l = link-at N us vs ws (lent .arrays) k h in
-        room (2 * k + 1) (getD us k 0) t (omega arith) (l .0) (omega arith) (up .0) (λ i p q. omega (
-          arith,
-          counted (getD us k 0) i (l .0) p q,
-          up .1 (getD us k 0) i (l .0) p q,
-          times-bit (same (getD vs k 0) (getD us k 0)) (getD x (N * suc D + 2 * k * D + pred i) 0) (b (N * suc D + 2 * k * D + pred i)),
-          same-le (getD vs k 0) (getD us k 0),
-        ))
-
-    pub entered-turn : (r : List ℕ) → EntryAdded N D x (2 * k + 1) (getD us k 0) t r → EnteredTo N D x us vs ws (k + 1) r
-    unfolding enters arcAt
-    entered-turn r back = record {
-      size = back .0;
-      so-far = λ v i a p l.
-          let e : getD r (depthBit D v i) 0 ≡ getD s (depthBit D v i) 0 + (enters N D x v i (arcUp us vs ws k) + enters N D x v i (arcBack us vs ws k)) = omega (arith, up .1 v i a p l, back .1 v i a p l) in
-          rw e (summed-turn us vs ws (enters N D x v i) k (getD s (depthBit D v i) 0) (g .so-far v i a p l) (enters N D x v i (arcUp us vs ws k) + enters N D x v i (arcBack us vs ws k)) h refl);
-    }
+  pub entered-turn : (r : List ℕ) → LinkAdded N D x k (getD us k 0) (getD vs k 0) s r → EnteredTo N D x us vs ws (k + 1) r
+  unfolding enters arcAt
+  entered-turn r added = record {
+    size = added .size;
+    so-far = λ v i a p l. rw (added .each v i a p l) (summed-turn us vs ws (enters N D x v i) k (getD s (depthBit D v i) 0) (g .so-far v i a p l) (enters N D x v i (arcUp us vs ws k) + enters N D x v i (arcBack us vs ws k)) h refl);
+  }
 
 -- ---- entry_gaps: counts that are the arcs into each meter at each depth
 

@@ -12,6 +12,7 @@ pub mod Worth
 pub mod Constants
 pub mod Bound
 pub mod Slices
+pub mod LinkBits
 pub mod ArcSums
 pub mod Summing
 pub mod Entered

@@ -9,13 +9,17 @@ use native.Mathlib.Decide.{decLt}
 use native.Mathlib.Numerals.{add-one}
 use native.Mathlib.Nat.{mul-le-mul, mul-add, zero-mul}
 use Rattle.lists.specs.Sums.{sumTo, sumOf, gap, nth}
-use Rattle.lists.proofs.Sums.{gap-small, sumTo-zero, sumTo-next, sumTo-eq, sumTo-none, sumTo-term, sumTo-split, sumTo-bits, nth-suc}
+use Rattle.lists.proofs.Sums.{gap-small, sumTo-zero, sumTo-next, sumTo-eq, sumTo-none, nth-suc}
+use Rattle.links.specs.Links.{linksOf}
 use Rattle.qubo.specs.Formula.{Bits, Assignment}
 use Rattle.onehot.specs.Choices.{bitAt, setAt, missSquared, misses}
-use Rattle.arcs.specs.Arcs.{Arc, depthBit, depthAt, arcAt}
+use Rattle.arcs.specs.Arcs.{Arc, arcs, depthBit, depthAt, arcAt}
 use Rattle.arcs.specs.Sums.{rootMiss, depthMisses, endMisses, arcCost}
+use Rattle.arcs.specs.Walks.{linkSet, Used}
 use Rattle.arcs.proofs.ArcLists.{arcUp, arcBack}
-use Rattle.arcs.proofs.Slices.{slice, slice-length, slice-at, slice-nth, slice-sum, slice-bits, meter-within}
+use Rattle.arcs.proofs.LinkBits.{set-halves, none-set}
+use Rattle.arcs.proofs.ArcSums.{ArcsSummed, summed-start, summed-turn, summed-end}
+use Rattle.arcs.proofs.Slices.{slice, slice-length, slice-at, slice-nth, slice-bits, meter-within}
 
 -- ---- root_count: the depth-0 bits of the meters up to v
 
@@ -248,22 +252,11 @@ unfolding costOf arcCost
 cost-sum N D ks x = refl
 
 -- bits none of which is set miss nothing
-unset-misses : (D : ℕ) (b m : ℕ → ℕ) → sumTo D b ≡ 0 → sumTo D (λ i. b i * (2 - m i)) ≡ 0
-unset-misses D b m e = sumTo-none D (λ i. b i * (2 - m i)) (λ i p q. unset (b i) (2 - m i) (omega (arith, sumTo-term D b i p q, e)))
+unset-misses : (D : ℕ) (b m : ℕ → ℕ) → ((i : ℕ) → 1 ≤ i → i ≤ D → b i ≡ 0) → sumTo D (λ i. b i * (2 - m i)) ≡ 0
+unset-misses D b m z = sumTo-none D (λ i. b i * (2 - m i)) (λ i p q. unset (b i) (2 - m i) (z i p q))
   where
     unset : (a c : ℕ) → a ≡ 0 → a * c ≡ 0
     unset a c z = rw z (zero-mul c)
-
--- the bits of the two arcs of link k lie one after another
-pub link-halves : (N D : ℕ) (x us vs ws : List ℕ) (k : ℕ) → sumTo (2 * D) (λ i. getD x (N * suc D + 2 * k * D + pred i) 0) ≡ sumTo D (arcAt N D x (arcUp us vs ws k)) + sumTo D (arcAt N D x (arcBack us vs ws k))
-unfolding arcAt
-link-halves N D x us vs ws k =
-    ap (λ (n : ℕ). sumTo n (λ i. getD x (N * suc D + 2 * k * D + pred i) 0)) (let e : 2 * D ≡ D + D = omega arith in e)
-    ∙ sumTo-split D D (λ i. getD x (N * suc D + 2 * k * D + pred i) 0)
-    ∙ ap (λ (n : ℕ). sumTo D (arcAt N D x (arcUp us vs ws k)) + n) (sumTo-eq D (λ i. getD x (N * suc D + 2 * k * D + pred (D + i)) 0) (arcAt N D x (arcBack us vs ws k)) behind)
-  where
-    behind : (i : ℕ) → 1 ≤ i → i ≤ D → getD x (N * suc D + 2 * k * D + pred (D + i)) 0 ≡ getD x (N * suc D + (2 * k + 1) * D + pred i) 0
-    behind i p q = let e : N * suc D + 2 * k * D + pred (D + i) ≡ N * suc D + (2 * k + 1) * D + pred i = omega arith in rw e refl
 
 -- what the two arcs of link k give
 module _ (N D : ℕ) (x us vs ws : List ℕ) (k : ℕ) where
@@ -275,32 +268,39 @@ module _ (N D : ℕ) (x us vs ws : List ℕ) (k : ℕ) where
   misses-link r e = e
 
   -- where n bits of the two are set
-  module _ (a n : ℕ) (start : a ≡ N * suc D + 2 * k * D) (fits : a + 2 * D ≤ length x) (set : n ≡ sumTo (length (slice x a (a + 2 * D))) (nth (slice x a (a + 2 * D)))) where
-    both : n ≡ sumTo (2 * D) (λ i. getD x (N * suc D + 2 * k * D + pred i) 0)
-    both = set ∙ slice-sum x a (a + 2 * D) (2 * D) refl fits ∙ ap (λ (s : ℕ). sumTo (2 * D) (λ i. getD x (s + pred i) 0)) start
-
+  module _ (n : ℕ) (set : n ≡ linkSet N D x k) where
     -- where none is, neither arc misses anything
     pub misses-none : n ≡ 0 → (u v : ℕ)
         → 0
         ≡ sumTo D (λ i. getD x (N * suc D + 2 * k * D + pred i) 0 * (2 - (depthAt D x u (pred i) + depthAt D x v i)))
         + sumTo D (λ i. getD x (N * suc D + (2 * k + 1) * D + pred i) 0 * (2 - (depthAt D x v (pred i) + depthAt D x u i)))
-    unfolding arcAt
     misses-none z u v =
-        let h = both ∙ link-halves N D x us vs ws k in
+        let none = none-set N D x k (omega (arith, set)) in
         omega (
           arith,
-          unset-misses D (λ i. getD x (N * suc D + 2 * k * D + pred i) 0) (λ i. depthAt D x u (pred i) + depthAt D x v i) (omega (arith, h, z)),
-          unset-misses D (λ i. getD x (N * suc D + (2 * k + 1) * D + pred i) 0) (λ i. depthAt D x v (pred i) + depthAt D x u i) (omega (arith, h, z)),
+          unset-misses D (λ i. getD x (N * suc D + 2 * k * D + pred i) 0) (λ i. depthAt D x u (pred i) + depthAt D x v i) (λ i p q. none i p q .0),
+          unset-misses D (λ i. getD x (N * suc D + (2 * k + 1) * D + pred i) 0) (λ i. depthAt D x v (pred i) + depthAt D x u i) (λ i p q. none i p q .1),
         )
 
     pub cost-link : getD ws k 0 * n ≡ costOf N D x (arcUp us vs ws k) + costOf N D x (arcBack us vs ws k)
     unfolding costOf
-    cost-link = ap (λ (m : ℕ). getD ws k 0 * m) (both ∙ link-halves N D x us vs ws k) ∙ mul-add (getD ws k 0) (sumTo D (arcAt N D x (arcUp us vs ws k))) (sumTo D (arcAt N D x (arcBack us vs ws k)))
+    cost-link = ap (λ (m : ℕ). getD ws k 0 * m) (set ∙ set-halves N D x us vs ws k) ∙ mul-add (getD ws k 0) (sumTo D (arcAt N D x (arcUp us vs ws k))) (sumTo D (arcAt N D x (arcBack us vs ws k)))
 
-    -- at most 24 at each
-    pub set-few : D ≤ 24 → Bits x → n ≤ 48
-    set-few d b = omega (arith, both, sumTo-bits (2 * D) (λ i. getD x (N * suc D + 2 * k * D + pred i) 0) (λ i. b (N * suc D + 2 * k * D + pred i)))
+-- a weight is at most 65,535, and a link has at most 48 bits
+pub cost-small : (w n : ℕ) → w ≤ 65535 → n ≤ 48 → w * n ≤ 3145680
+cost-small w n a b = mul-le-mul {n₁ = w} {m₁ = n} {n₂ = 65535} {m₂ = 48} a b
 
-    -- a weight is at most 65,535
-    pub cost-small : D ≤ 24 → Bits x → getD ws k 0 ≤ 65535 → getD ws k 0 * n ≤ 3145680
-    cost-small d b w = mul-le-mul {n₁ = getD ws k 0} {m₁ = n} {n₂ = 65535} {m₂ = 48} w (set-few d b)
+-- ---- arc_cost: the first k links, whatever the bits are of which n are the counts
+
+pub record CostTo (used ws : List ℕ) (k sum : ℕ) : Type 0 where
+  pub so-far : (N D : ℕ) (x us vs : List ℕ) → length us ≡ length ws → Used N D (length us) x used → ArcsSummed us vs ws (costOf N D x) k sum
+
+module _ (used ws : List ℕ) where
+  pub cost-start : CostTo used ws 0 0
+  cost-start = record { so-far = λ N D x us vs e u. summed-start us vs ws (costOf N D x) }
+
+  pub cost-turn : (k sum : ℕ) → CostTo used ws k sum → k < length ws → CostTo used ws (k + 1) (sum + getD ws k 0 * getD used k 0)
+  cost-turn k sum c h = record { so-far = λ N D x us vs e u. summed-turn us vs ws (costOf N D x) k sum (c .so-far N D x us vs e u) (getD ws k 0 * getD used k 0) (omega arith) (cost-link N D x us vs ws k (getD used k 0) (u .each k (omega arith))) }
+
+  pub cost-end : (k sum : ℕ) → CostTo used ws k sum → length ws ≤ k → (N D : ℕ) (x us vs : List ℕ) → length us ≡ length ws → Used N D (length us) x used → sum ≡ arcCost D (arcs (linksOf us vs ws)) (arcAt N D x)
+  cost-end k sum c h N D x us vs e u = summed-end us vs ws (costOf N D x) k sum (c .so-far N D x us vs e u) (omega arith) ∙ cost-sum N D (arcs (linksOf us vs ws)) x

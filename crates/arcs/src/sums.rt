@@ -1,6 +1,7 @@
 // The sums of depths and arcs in an assignment. What is counted for meter v at depth t stands in the place of that depth's bit.
 ghost use Prim.Native.Nat.{ℕ, suc, pred, _+_, _-_, _*_, _≤_, _<_};
 ghost use mathlib.Core.Path.{_≡_};
+ghost use mathlib.Core.List.{List};
 ghost use lib.ListN.{length, getD};
 ghost use Rattle.lists.specs.Sums.{sumTo, same, gap, nth};
 ghost use Rattle.links.specs.Links.{linksOf};
@@ -8,8 +9,31 @@ ghost use Rattle.qubo.specs.Formula.{Bits};
 ghost use Rattle.arcs.specs.Arcs.{arcs, depthBit, arcsEnd, depthAt, arcAt};
 ghost use Rattle.arcs.specs.Sums.{rootMiss, depthMisses, entriesOf, entryGaps, endMisses, arcCost};
 ghost use Rattle.arcs.specs.Lent.{Lent};
+ghost use Rattle.arcs.specs.Walks.{linkSet, Used, LinkFits, LinkAdded};
 use crate::places::arc_start;
 use crate::places::depth_start;
+
+// How many bits of the two arcs of link k are set: they lie one behind the other.
+fn link_set(bits: &[u8], meters: usize, deepest: usize, k: usize) -> u8
+    requires { ⌜ (meters ≤ 48) × (deepest ≤ 24) × (k < 256) × Bits (now bits) × (arcsEnd meters deepest (k + 1) ≤ length (now bits)) ⌝ }
+    ensures { λ r. ⌜ r ≡ linkSet meters deepest (now (bits .entry)) k ⌝ }
+{
+    let start = arc_start(meters, deepest, 2 * k);
+    let count = onehot::set_count(&bits[start..start + 2 * deepest]);
+    count as u8
+}
+
+// The same for every link, in its place. The sums over arcs are lent these counts, so that the bits are counted once; few links of a tree have any set, and the others are passed over.
+pub fn count_used(used: &mut [u8], bits: &[u8], meters: usize, deepest: usize)
+    requires { ⌜ (meters ≤ 48) × (deepest ≤ 24) × (length (now used) ≤ 256) × Bits (now bits) × (arcsEnd meters deepest (length (now used)) ≤ length (now bits)) ⌝ }
+    ensures { λ _. ⌜ Used meters deepest (length (now (used .entry))) (now (bits .entry)) (now (used .exit)) ⌝ }
+{
+    let mut k: usize = 0;
+    while k < used.len() {
+        used[k] = link_set(bits, meters, deepest, k);
+        k += 1;
+    }
+}
 
 // How many depth-0 bits are set.
 fn root_count(bits: &[u8], meters: usize, deepest: usize) -> usize
@@ -76,25 +100,46 @@ fn add_arc(
     );
 }
 
+// Counts the two arcs of link k, of whose bits n are set.
+fn add_link(
+    counts: &mut [u8],
+    bits: &[u8],
+    meters: usize,
+    deepest: usize,
+    k: usize,
+    u: usize,
+    v: usize,
+    n: u8,
+)
+    requires { ⌜ LinkFits meters deepest (now bits) k u v (now counts) × (n ≡ linkSet meters deepest (now bits) k) ⌝ }
+    ensures { λ _. ⌜ LinkAdded meters deepest (now (bits .entry)) k u v (now (counts .entry)) (now (counts .exit)) ⌝ }
+{
+    if n == 0 {
+        return;
+    }
+    add_arc(counts, bits, meters, deepest, 2 * k, v);
+    add_arc(counts, bits, meters, deepest, 2 * k + 1, u);
+}
+
 // The arcs into each meter at each depth, in one walk of the links. A meter has at most 47 links, so each count fits in a byte.
 fn gather_entries(
     counts: &mut [u8],
     bits: &[u8],
+    used: &[u8],
     us: &[u8],
     vs: &[u8],
     ws: &[u16],
     meters: usize,
     deepest: usize,
 )
-    requires { ⌜ Lent meters deepest (now us) (now vs) (now ws) × Bits (now bits) × (arcsEnd meters deepest (length (now us)) ≤ length (now bits)) × (length (now counts) ≡ 1200) × ((i : ℕ) → getD (now counts) i 0 ≡ 0) ⌝ }
+    requires { ⌜ Lent meters deepest (now us) (now vs) (now ws) × Bits (now bits) × (arcsEnd meters deepest (length (now us)) ≤ length (now bits)) × (length (now counts) ≡ 1200) × ((i : ℕ) → getD (now counts) i 0 ≡ 0) × Used meters deepest (length (now us)) (now bits) (now used) ⌝ }
     ensures { λ _. ⌜ (length (now (counts .exit)) ≡ 1200) × ((v t : ℕ) → 1 ≤ v → 1 ≤ t → t ≤ deepest → getD (now (counts .exit)) (depthBit deepest v t) 0 ≡ entriesOf (arcs (linksOf (now (us .entry)) (now (vs .entry)) (now (ws .entry)))) (arcAt meters deepest (now (bits .entry))) v t) ⌝ }
 {
     let mut k: usize = 0;
     while k < us.len() {
         let u = us[k] as usize;
         let v = vs[k] as usize;
-        add_arc(counts, bits, meters, deepest, 2 * k, v);
-        add_arc(counts, bits, meters, deepest, 2 * k + 1, u);
+        add_link(counts, bits, meters, deepest, k, u, v, used[k]);
         k += 1;
     }
 }
@@ -134,17 +179,18 @@ fn meter_gaps(bits: &[u8], counts: &[u8], meters: usize, deepest: usize) -> u64
 // Per meter and depth i ≥ 1 (its depth-i bit - depth-i arcs into it)².
 pub fn entry_gaps(
     bits: &[u8],
+    used: &[u8],
     us: &[u8],
     vs: &[u8],
     ws: &[u16],
     meters: usize,
     deepest: usize,
 ) -> u64
-    requires { ⌜ Lent meters deepest (now us) (now vs) (now ws) × Bits (now bits) × (arcsEnd meters deepest (length (now us)) ≤ length (now bits)) ⌝ }
+    requires { ⌜ Lent meters deepest (now us) (now vs) (now ws) × Bits (now bits) × (arcsEnd meters deepest (length (now us)) ≤ length (now bits)) × Used meters deepest (length (now us)) (now bits) (now used) ⌝ }
     ensures { λ r. ⌜ (r ≡ entryGaps meters deepest (arcs (linksOf (now (us .entry)) (now (vs .entry)) (now (ws .entry)))) (depthAt deepest (now (bits .entry))) (arcAt meters deepest (now (bits .entry)))) × (r ≤ 2654208) ⌝ }
 {
     let mut counts: [u8; 1200] = [0; 1200];
-    gather_entries(&mut counts[..1200], bits, us, vs, ws, meters, deepest);
+    gather_entries(&mut counts[..1200], bits, used, us, vs, ws, meters, deepest);
     meter_gaps(bits, &counts[..1200], meters, deepest)
 }
 
@@ -185,13 +231,20 @@ fn arc_misses(
     )
 }
 
-// The same for both arcs of link k. Few links of a tree have a bit set, and one count passes the others over.
-fn link_misses(bits: &[u8], meters: usize, deepest: usize, k: usize, u: usize, v: usize) -> u64
-    requires { ⌜ (meters ≤ 48) × (deepest ≤ 24) × (k < 256) × (1 ≤ u) × (u ≤ meters) × (1 ≤ v) × (v ≤ meters) × Bits (now bits) × (meters * suc deepest + (2 * k + 1) * deepest + deepest ≤ length (now bits)) ⌝ }
+// The same for both arcs of link k, of whose bits n are set.
+fn link_misses(
+    bits: &[u8],
+    meters: usize,
+    deepest: usize,
+    k: usize,
+    u: usize,
+    v: usize,
+    n: u8,
+) -> u64
+    requires { ⌜ (meters ≤ 48) × (deepest ≤ 24) × (k < 256) × (1 ≤ u) × (u ≤ meters) × (1 ≤ v) × (v ≤ meters) × Bits (now bits) × (meters * suc deepest + (2 * k + 1) * deepest + deepest ≤ length (now bits)) × (n ≡ linkSet meters deepest (now bits) k) ⌝ }
     ensures { λ r. ⌜ (r ≡ sumTo deepest (λ i. getD (now (bits .entry)) (meters * suc deepest + 2 * k * deepest + pred i) 0 * (2 - (depthAt deepest (now (bits .entry)) u (pred i) + depthAt deepest (now (bits .entry)) v i))) + sumTo deepest (λ i. getD (now (bits .entry)) (meters * suc deepest + (2 * k + 1) * deepest + pred i) 0 * (2 - (depthAt deepest (now (bits .entry)) v (pred i) + depthAt deepest (now (bits .entry)) u i)))) × (r ≤ 96) ⌝ }
 {
-    let start = arc_start(meters, deepest, 2 * k);
-    if onehot::set_count(&bits[start..start + 2 * deepest]) == 0 {
+    if n == 0 {
         return 0;
     }
     let there = arc_misses(bits, meters, deepest, 2 * k, u, v);
@@ -202,13 +255,14 @@ fn link_misses(bits: &[u8], meters: usize, deepest: usize, k: usize, u: usize, v
 // Per arc and depth, its bit times (2 - [parent one less deep] - [child as deep]).
 pub fn end_misses(
     bits: &[u8],
+    used: &[u8],
     us: &[u8],
     vs: &[u8],
     ws: &[u16],
     meters: usize,
     deepest: usize,
 ) -> u64
-    requires { ⌜ Lent meters deepest (now us) (now vs) (now ws) × Bits (now bits) × (arcsEnd meters deepest (length (now us)) ≤ length (now bits)) ⌝ }
+    requires { ⌜ Lent meters deepest (now us) (now vs) (now ws) × Bits (now bits) × (arcsEnd meters deepest (length (now us)) ≤ length (now bits)) × Used meters deepest (length (now us)) (now bits) (now used) ⌝ }
     ensures { λ r. ⌜ (r ≡ endMisses deepest (arcs (linksOf (now (us .entry)) (now (vs .entry)) (now (ws .entry)))) (depthAt deepest (now (bits .entry))) (arcAt meters deepest (now (bits .entry)))) × (r ≤ 24576) ⌝ }
 {
     let mut sum: u64 = 0;
@@ -216,23 +270,21 @@ pub fn end_misses(
     while k < us.len() {
         let u = us[k] as usize;
         let v = vs[k] as usize;
-        sum += link_misses(bits, meters, deepest, k, u, v);
+        sum += link_misses(bits, meters, deepest, k, u, v, used[k]);
         k += 1;
     }
     sum
 }
 
-// The weight of every arc bit set: a link's two arcs have their bits one behind the other.
-pub fn arc_cost(bits: &[u8], us: &[u8], vs: &[u8], ws: &[u16], meters: usize, deepest: usize) -> u64
-    requires { ⌜ Lent meters deepest (now us) (now vs) (now ws) × Bits (now bits) × (arcsEnd meters deepest (length (now us)) ≤ length (now bits)) ⌝ }
-    ensures { λ r. ⌜ (r ≡ arcCost deepest (arcs (linksOf (now (us .entry)) (now (vs .entry)) (now (ws .entry)))) (arcAt meters deepest (now (bits .entry)))) × (r ≤ 805294080) ⌝ }
+// The weight of every arc bit set, whatever the bits are of which these are the counts.
+pub fn arc_cost(used: &[u8], ws: &[u16]) -> u64
+    requires { ⌜ (length (now ws) ≤ 256) × (length (now used) ≡ length (now ws)) × ((k : ℕ) → getD (now used) k 0 ≤ 48) ⌝ }
+    ensures { λ r. ⌜ ((N D : ℕ) (x us vs : List ℕ) → length us ≡ length (now (ws .entry)) → Used N D (length us) x (now (used .entry)) → r ≡ arcCost D (arcs (linksOf us vs (now (ws .entry)))) (arcAt N D x)) × (r ≤ 805294080) ⌝ }
 {
     let mut sum: u64 = 0;
     let mut k: usize = 0;
-    while k < us.len() {
-        let start = arc_start(meters, deepest, 2 * k);
-        let set = onehot::set_count(&bits[start..start + 2 * deepest]);
-        sum += (ws[k] as u64) * (set as u64);
+    while k < ws.len() {
+        sum += (ws[k] as u64) * (used[k] as u64);
         k += 1;
     }
     sum

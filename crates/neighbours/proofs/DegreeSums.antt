@@ -4,11 +4,11 @@ use mathlib.Core.Path.{_≡_, refl, ap, _∙_, fun-ext}
 use mathlib.Core.List.{List}
 use native.Mathlib.Omega.{arith}
 use native.Mathlib.Numerals.{add-one}
-use native.Mathlib.Nat.{mul-le-mul, mul-le-mul-right, mul-comm, add-mul}
+use native.Mathlib.Nat.{mul-le-mul, mul-comm, add-mul}
 use lib.ListN.{length, getD, set, drop, length-set, length-drop}
 use lib.Seq.{getD-drop, take-all}
 use Rattle.lists.specs.Sums.{sumTo, same, gap, nth}
-use Rattle.lists.proofs.Sums.{sumTo-zero, sumTo-next, sumTo-eq, sumTo-bits, times-bit, same-le, same-one, nth-suc}
+use Rattle.lists.proofs.Sums.{sumTo-zero, sumTo-next, sumTo-eq, times-bit, same-le, same-one, nth-suc}
 use Rattle.lists.proofs.Stores.{added-same}
 use Rattle.links.specs.Links.{linksOf}
 use Rattle.links.proofs.Walk.{link-at, arrays-few}
@@ -19,10 +19,10 @@ use Rattle.arcs.specs.Arcs.{Arc, arcs, arcsEnd, arcAt}
 use Rattle.arcs.specs.Lent.{Lent}
 use Rattle.arcs.proofs.ArcLists.{arcUp, arcBack}
 use Rattle.arcs.proofs.ArcSums.{ArcsSummed, summed-start, summed-turn, summed-end}
-use Rattle.arcs.proofs.Slices.{slice, slice-sum, slice-short, link-within}
-use Rattle.arcs.proofs.Summing.{link-halves}
+use Rattle.arcs.specs.Walks.{linkSet}
+use Rattle.arcs.proofs.Slices.{slice}
+use Rattle.arcs.proofs.LinkBits.{set-halves, link-set-low}
 use Rattle.neighbours.specs.Formula.{countAt, touchesOf, degreeGaps}
-use Rattle.neighbours.specs.Walks.{linkSet}
 
 -- ---- the neighbour-count bits by themselves, from b on
 
@@ -43,32 +43,6 @@ module _ (N D M d b : ℕ) (is : b ≡ arcsEnd N D M) (x : List ℕ) where
 
   pub misses-are : (r : ℕ) → r ≡ misses N d (bitAt d (slice x b (length x))) → r ≡ misses N d (countAt N D M d x)
   misses-are r e = e ∙ ap (misses N d) counts-are
-
--- ---- link_set: the bits of a link's two arcs
-
-module _ (N D k : ℕ) (x : List ℕ) (s e : ℕ) (start : s ≡ N * suc D + 2 * k * D) (end : e ≡ s + 2 * D) (fits : arcsEnd N D (k + 1) ≤ length x) where
-  pub link-end : e ≤ length x
-  link-end = omega (arith, link-within N D (k + 1) k (omega arith))
-
-  pub link-short : D ≤ 24 → Bits x → Bits (slice x s e) × (length (slice x s e) < 256)
-  link-short h = slice-short x s e (2 * D) end link-end (omega arith)
-
-  pub link-set-is : (r : ℕ) → r ≡ sumTo (length (slice x s e)) (nth (slice x s e)) → r ≡ linkSet N D x k
-  unfolding linkSet
-  link-set-is r h = h ∙ slice-sum x s e (2 * D) end link-end ∙ ap (λ (j : ℕ). sumTo (2 * D) (λ t. getD x (j + pred t) 0)) start
-
--- the bits of each link lie before the neighbour-count bits
-pub links-within : (N D M k L : ℕ) → k < M → arcsEnd N D M ≤ L → arcsEnd N D (k + 1) ≤ L
-links-within N D M k L h g = omega (arith, mul-le-mul-right D (let e : 2 * (k + 1) ≤ 2 * M = omega arith in e))
-
-pub link-set-low : (N D k : ℕ) (x : List ℕ) → D ≤ 24 → Bits x → linkSet N D x k ≤ 48
-unfolding linkSet
-link-set-low N D k x h b = omega (arith, sumTo-bits (2 * D) (λ t. getD x (N * suc D + 2 * k * D + pred t) 0) (λ t. b _))
-
--- arc by arc
-set-halves : (N D : ℕ) (x us vs ws : List ℕ) (k : ℕ) → linkSet N D x k ≡ sumTo D (arcAt N D x (arcUp us vs ws k)) + sumTo D (arcAt N D x (arcBack us vs ws k))
-unfolding linkSet
-set-halves = link-halves
 
 -- ---- gather_touches: after k links
 

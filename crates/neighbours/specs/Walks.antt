@@ -6,7 +6,6 @@ use mathlib.Core.List.{List, [], _∷_, _++_}
 use lib.Dec.{eqb}
 use lib.ListN.{length, getD}
 use lib.IntN.{ℤ, pos, natAbs}
-use Rattle.lists.specs.Sums.{sumTo}
 use Rattle.qubo.specs.Formula.{Formula}
 use Rattle.qubo.specs.Terms.{each, over, times}
 use Rattle.qubo.specs.Rows.{runSum}
@@ -37,10 +36,6 @@ linkRun N D k = record { start = N * suc D + 2 * k * D; step = 1; count = 2 * D 
 -- q times bit i times these bits, where the link has an end at meter m
 unfoldable pub linkPart : ℕ → ℕ → ℕ → ℤ → ℕ → Run → Formula
 linkPart u v m q i run = cond (eqb u m || eqb v m) (times q i (runSum run) ∷ []) []
-
--- how many of these bits are set in the assignment x
-unfoldable pub linkSet : ℕ → ℕ → List ℕ → ℕ → ℕ
-linkSet N D x k = sumTo (2 * D) (λ t. getD x (N * suc D + 2 * k * D + pred t) 0)
 
 -- ---- rows
 

@@ -18,8 +18,9 @@ ghost use Rattle.onehot.specs.Choices.{bitAt};
 ghost use Rattle.arcs.specs.Arcs.{arcs, arcsEnd, arcAt};
 ghost use Rattle.arcs.specs.Lent.{Lent};
 ghost use Rattle.arcs.specs.Places.{IsPlace};
+ghost use Rattle.arcs.specs.Walks.{Used};
 ghost use Rattle.neighbours.specs.Formula.{countAt, touching, degreeTerm, degreeTerms, touchesOf, degreeGaps};
-ghost use Rattle.neighbours.specs.Walks.{numbered, degreeEntries, linkRun, linkPart, linkSet, TableRow, Roomy};
+ghost use Rattle.neighbours.specs.Walks.{numbered, degreeEntries, linkRun, linkPart, TableRow, Roomy};
 
 // x times y.
 fn mul(x: i64, y: i64) -> i64
@@ -196,17 +197,6 @@ pub fn add_degrees(
     }
 }
 
-// How many bits of the two arcs of link k are set.
-fn link_set(bits: &[u8], meters: usize, deepest: usize, k: usize) -> u64
-    requires { ⌜ (meters ≤ 48) × (deepest ≤ 24) × (k ≤ 256) × Bits (now bits) × (arcsEnd meters deepest (k + 1) ≤ length (now bits)) ⌝ }
-    ensures { λ r. ⌜ (r ≡ linkSet meters deepest (now (bits .entry)) k) × (r ≤ 48) ⌝ }
-{
-    let run = link_run(meters, deepest, k);
-    let start = run.start;
-    let end = start + run.count;
-    onehot::set_count(&bits[start..end]) as u64
-}
-
 // Adds c to the sum of meter m.
 fn add_count(sums: &mut [u64], m: usize, c: u64)
     requires { ⌜ (m < length (now sums)) × (getD (now sums) m 0 < 4294967296) × (c ≤ 48) ⌝ }
@@ -219,18 +209,19 @@ fn add_count(sums: &mut [u64], m: usize, c: u64)
 fn gather_touches(
     sums: &mut [u64],
     bits: &[u8],
+    used: &[u8],
     us: &[u8],
     vs: &[u8],
     ws: &[u16],
     meters: usize,
     deepest: usize,
 )
-    requires { ⌜ Lent meters deepest (now us) (now vs) (now ws) × Bits (now bits) × (arcsEnd meters deepest (length (now us)) ≤ length (now bits)) × (length (now sums) ≡ 256) × ((m : ℕ) → getD (now sums) m 0 ≡ 0) ⌝ }
+    requires { ⌜ Lent meters deepest (now us) (now vs) (now ws) × Bits (now bits) × (arcsEnd meters deepest (length (now us)) ≤ length (now bits)) × (length (now sums) ≡ 256) × ((m : ℕ) → getD (now sums) m 0 ≡ 0) × Used meters deepest (length (now us)) (now bits) (now used) ⌝ }
     ensures { λ _. ⌜ (length (now (sums .exit)) ≡ 256) × ((m : ℕ) → getD (now (sums .exit)) m 0 ≡ touchesOf deepest (arcs (linksOf (now (us .entry)) (now (vs .entry)) (now (ws .entry)))) (arcAt meters deepest (now (bits .entry))) m) × ((m : ℕ) → getD (now (sums .exit)) m 0 ≤ 12288) ⌝ }
 {
     let mut k: usize = 0;
     while k < us.len() {
-        let both = link_set(bits, meters, deepest, k);
+        let both = used[k] as u64;
         add_count(sums, us[k] as usize, both);
         add_count(sums, vs[k] as usize, both);
         k += 1;
@@ -272,6 +263,7 @@ fn gaps_of(sums: &[u64], bits: &[u8], meters: usize, d: usize) -> u64
 // Per meter (sum of j over its neighbour-count bits set - all arc bits in or out of it)².
 pub fn degree_gaps(
     bits: &[u8],
+    used: &[u8],
     us: &[u8],
     vs: &[u8],
     ws: &[u16],
@@ -279,11 +271,11 @@ pub fn degree_gaps(
     deepest: usize,
     d: usize,
 ) -> u64
-    requires { ⌜ Lent meters deepest (now us) (now vs) (now ws) × (d ≤ 47) × Assignment (arcsEnd meters deepest (length (now us)) + meters * d) (now bits) ⌝ }
+    requires { ⌜ Lent meters deepest (now us) (now vs) (now ws) × (d ≤ 47) × Assignment (arcsEnd meters deepest (length (now us)) + meters * d) (now bits) × Used meters deepest (length (now us)) (now bits) (now used) ⌝ }
     ensures { λ r. ⌜ (r ≡ degreeGaps meters deepest d (arcs (linksOf (now (us .entry)) (now (vs .entry)) (now (ws .entry)))) (arcAt meters deepest (now (bits .entry))) (countAt meters deepest (length (now (us .entry))) d (now (bits .entry)))) × (r ≤ 2 ^ 33) ⌝ }
 {
     let mut sums: [u64; 256] = [0; 256];
-    gather_touches(&mut sums[..256], bits, us, vs, ws, meters, deepest);
+    gather_touches(&mut sums[..256], bits, used, us, vs, ws, meters, deepest);
     let base = counts::first_count(meters, deepest, us.len());
     gaps_of(&sums[..256], &bits[base..], meters, d)
 }

@@ -9,7 +9,7 @@ use native.Mathlib.Decide.{ℕ-discrete, decLt}
 use native.Mathlib.Numerals.{add-one}
 use native.Mathlib.Nat.{mul-le-mul, mul-le-mul-left, mul-le-mul-right, add-le-add, add-mul, suc-mul, zero-mul, one-mul}
 use Rattle.lists.specs.Sums.{sumTo, sumOf, same, nth}
-use Rattle.lists.proofs.Sums.{same-yes, same-no, sumOf-times, nth-index, nth-suc, sumTo-eq, sumTo-split}
+use Rattle.lists.proofs.Sums.{same-yes, same-no, sumOf-times, nth-index, nth-suc}
 use Rattle.lists.proofs.Stores.{added-here, added-elsewhere, added-same}
 use Rattle.links.specs.Links.{linksOf}
 use Rattle.links.specs.Survey.{Arrays}
@@ -19,7 +19,9 @@ use Rattle.onehot.proofs.Codes.{each-length, each-at}
 use Rattle.onehot.proofs.Parts.{one-less}
 use Rattle.arcs.specs.Arcs.{Arc, arcs, arcsEnd, arcAt}
 use Rattle.arcs.proofs.ArcLists.{ArcOf, arc-of, arcUp, arcBack, arcsLeft, arcs-start, arcs-turn, arcs-end, up-among, back-among}
+use Rattle.arcs.specs.Walks.{linkSet, Used}
 use Rattle.arcs.proofs.Slices.{slice, slice-sum, depths-few, arcs-few}
+use Rattle.arcs.proofs.LinkBits.{set-parts}
 use Rattle.tree.specs.Decoding.{parentRead, candidateTo}
 use Rattle.tree.specs.Stores.{setFrom, added}
 
@@ -67,18 +69,6 @@ module _ (p q : List ℕ) (c n : ℕ) (low : 1 ≤ c) (high : c ≤ length p) (e
 
 -- ---- read_link: the bits of two arcs, one behind the other
 
--- a part of both is the first and then the second
-pub link-set : (x : List ℕ) (k D : ℕ) → k + D + D ≤ length x → sumTo (length (slice x k (k + D + D))) (nth (slice x k (k + D + D))) ≡ setFrom x k D + setFrom x (k + D) D
-unfolding setFrom
-link-set x k D h =
-    slice-sum x k (k + D + D) (D + D) (omega arith) h
-    ∙ sumTo-split D D (λ i. getD x (k + pred i) 0)
-    ∙ ap (λ t. sumTo D (λ i. getD x (k + pred i) 0) + t) (sumTo-eq D (λ i. getD x (k + pred (D + i)) 0) (λ i. getD x (k + D + pred i) 0) behind)
-  where
-    behind : (i : ℕ) → 1 ≤ i → i ≤ D → getD x (k + pred (D + i)) 0 ≡ getD x (k + D + pred i) 0
-    behind zero a b = absurd (omega arith)
-    behind (suc j) a b = let e : D + suc j ≡ suc (D + j) = omega arith in rw e (ap (λ t. getD x t 0) (let f : k + (D + j) ≡ k + D + j = omega arith in f))
-
 -- nothing added
 added-none : (p : List ℕ) (v : ℕ) → 1 ≤ v → v ≤ length p → p ≡ added v 0 p
 added-none p v l h =
@@ -107,8 +97,8 @@ pub record Readable (N D : ℕ) (us vs ws x : List ℕ) : Type 0 where
   pub once : (v : ℕ) → 1 ≤ v → v ≤ N → sumOf (arcs (linksOf us vs ws)) (λ a. same (a .child) v * sumTo D (arcAt N D x a)) ≤ 1
 
 -- what read_parents is lent, as facts
-pub readable : (N D : ℕ) (us vs ws x : List ℕ) (n : ℕ) → Arrays N us vs ws × (D ≤ 24) × Bits x × (arcsEnd N D (length us) ≤ length x) × (n ≡ N) × ((v : ℕ) → 1 ≤ v → v ≤ N → sumOf (arcs (linksOf us vs ws)) (λ a. same (a .child) v * sumTo D (arcAt N D x a)) ≤ 1) → Readable N D us vs ws x
-readable N D us vs ws x n t = record { arrays = t .0; deep = t .1; bits = t .2; room = t .3; once = t .5 }
+pub readable : (N D : ℕ) (us vs ws x used : List ℕ) (n : ℕ) → Arrays N us vs ws × (D ≤ 24) × Bits x × (arcsEnd N D (length us) ≤ length x) × (n ≡ N) × ((v : ℕ) → 1 ≤ v → v ≤ N → sumOf (arcs (linksOf us vs ws)) (λ a. same (a .child) v * sumTo D (arcAt N D x a)) ≤ 1) × Used N D (length us) x used → Readable N D us vs ws x
+readable N D us vs ws x used n t = record { arrays = t .0; deep = t .1; bits = t .2; room = t .3; once = t .5 }
 
 -- what arc a gives at meter v
 pub gives : ℕ → ℕ → List ℕ → ℕ → Arc → ℕ
@@ -231,6 +221,11 @@ module _ (N D : ℕ) (us vs ws x : List ℕ) (r : Readable N D us vs ws x) where
 
     second-at : N * (D + 1) + 2 * k * D + D ≡ N * suc D + arcBack us vs ws k .number * D
     second-at = rw (add-one D) (omega (arith, add-mul (2 * k) 1 D))
+
+    -- how many of them are set
+    pub link-count : (n : ℕ) → n ≡ linkSet N D x k → n ≡ setFrom x (N * (D + 1) + 2 * k * D) D + setFrom x (N * (D + 1) + 2 * k * D + D) D
+    unfolding setFrom
+    link-count n e = e ∙ set-parts N D x k ∙ rw (second-at, first-at) refl
 
     module _ (p : List ℕ) (i : ReadTo N D us vs ws x (arcsLeft us vs ws k) p) where
       both-left : ReadTo N D us vs ws x (arcUp us vs ws k ∷ arcBack us vs ws k ∷ arcsLeft us vs ws (k + 1)) p

@@ -10,6 +10,7 @@ ghost use Rattle.links.specs.Survey.{Arrays};
 ghost use Rattle.qubo.specs.Formula.{Bits};
 ghost use Rattle.onehot.specs.Choices.{code};
 ghost use Rattle.arcs.specs.Arcs.{Arc, arcs, arcsEnd, arcAt};
+ghost use Rattle.arcs.specs.Walks.{Used};
 ghost use Rattle.tree.specs.Formula.{bitCount};
 ghost use Rattle.tree.specs.Plans.{depthChoices, arcChoice, arcChoices, countChoices, isPlan, codeOf};
 ghost use Rattle.tree.specs.Decoding.{candidateTo};
@@ -146,24 +147,24 @@ fn read_arc(bits: &[u8], start: usize, deepest: usize, u: u8, v: u8, plan: &mut 
     plan[at] = sum as u8;
 }
 
-// Adds the parents that the two arcs of a link give; their bits lie one behind the other from `start` on. Few links are in a tree, so one count passes most of them over.
-fn read_link(bits: &[u8], start: usize, deepest: usize, u: u8, v: u8, plan: &mut [u8])
-    requires { ⌜ Bits (now bits) × (deepest ≤ 24) × (start + deepest + deepest ≤ length (now bits)) × (setFrom (now bits) start deepest ≤ 1) × (setFrom (now bits) (start + deepest) deepest ≤ 1) ⌝ }
+// Adds the parents that the two arcs of a link give; their bits lie one behind the other from `start` on, and n of them are set. Few links are in a tree: most have none.
+fn read_link(bits: &[u8], start: usize, deepest: usize, u: u8, v: u8, n: u8, plan: &mut [u8])
+    requires { ⌜ Bits (now bits) × (deepest ≤ 24) × (start + deepest + deepest ≤ length (now bits)) × (setFrom (now bits) start deepest ≤ 1) × (setFrom (now bits) (start + deepest) deepest ≤ 1) × (n ≡ setFrom (now bits) start deepest + setFrom (now bits) (start + deepest) deepest) ⌝ }
     requires { ⌜ (1 ≤ u) × (u < v) × (v ≤ 48) × (v ≤ length (now plan)) × ((k : ℕ) → getD (now plan) k 0 ≤ 48) × ((k : ℕ) → getD (added v (setFrom (now bits) start deepest * u) (now plan)) k 0 ≤ 48) ⌝ }
     ensures { λ _. ⌜ now (plan .exit) ≡ added u (setFrom (now (bits .entry)) (start + deepest) deepest * v) (added v (setFrom (now (bits .entry)) start deepest * u) (now (plan .entry))) ⌝ }
 {
-    let middle = start + deepest;
-    let end = middle + deepest;
-    if onehot::set_count(&bits[start..end]) == 0 {
+    if n == 0 {
         return;
     }
+    let middle = start + deepest;
     read_arc(bits, start, deepest, u, v, plan);
     read_arc(bits, middle, deepest, v, u, plan);
 }
 
-// The parents read off the arcs, where no meter has more than one arc set into it.
+// The parents read off the arcs, where no meter has more than one arc set into it. How many bits each link's arcs have set is lent.
 pub fn read_parents(
     bits: &[u8],
+    used: &[u8],
     us: &[u8],
     vs: &[u8],
     ws: &[u16],
@@ -171,7 +172,7 @@ pub fn read_parents(
     deepest: usize,
     plan: &mut [u8],
 )
-    requires { ⌜ Arrays meters (now us) (now vs) (now ws) × (deepest ≤ 24) × Bits (now bits) × (arcsEnd meters deepest (length (now us)) ≤ length (now bits)) × (length (now plan) ≡ meters) × ((v : ℕ) → 1 ≤ v → v ≤ meters → sumOf (arcs (linksOf (now us) (now vs) (now ws))) (λ a. same (a .child) v * sumTo deepest (arcAt meters deepest (now bits) a)) ≤ 1) ⌝ }
+    requires { ⌜ Arrays meters (now us) (now vs) (now ws) × (deepest ≤ 24) × Bits (now bits) × (arcsEnd meters deepest (length (now us)) ≤ length (now bits)) × (length (now plan) ≡ meters) × ((v : ℕ) → 1 ≤ v → v ≤ meters → sumOf (arcs (linksOf (now us) (now vs) (now ws))) (λ a. same (a .child) v * sumTo deepest (arcAt meters deepest (now bits) a)) ≤ 1) × Used meters deepest (length (now us)) (now bits) (now used) ⌝ }
     ensures { λ _. ⌜ now (plan .exit) ≡ candidateTo deepest meters (linksOf (now (us .entry)) (now (vs .entry)) (now (ws .entry))) (now (bits .entry)) ⌝ }
 {
     onehot::clear_bits(plan);
@@ -179,7 +180,7 @@ pub fn read_parents(
     let mut k: usize = 0;
     while k < us.len() {
         let start = ends + 2 * k * deepest;
-        read_link(bits, start, deepest, us[k], vs[k], plan);
+        read_link(bits, start, deepest, us[k], vs[k], used[k], plan);
         k += 1;
     }
 }

@@ -9,7 +9,9 @@ ghost use Rattle.links.specs.Links.{Link, linksOf};
 ghost use Rattle.links.specs.Survey.{Arrays};
 ghost use Rattle.qubo.specs.Formula.{Assignment, value};
 ghost use Rattle.qubo.specs.Table.{constantOf, rowOf};
-ghost use Rattle.tree.specs.Formula.{withinLimits, bitCount, penalty, formula};
+ghost use Rattle.spanning.specs.Parents.{deepest};
+ghost use Rattle.tree.specs.Formula.{withinLimits, bitCount, penalty, formula, bitsOf};
+ghost use Rattle.tree.specs.Parts.{brokenChoices};
 ghost use Rattle.tree.specs.Plans.{isPlan, codeOf};
 ghost use Rattle.tree.specs.Decoding.{answerOf, planAfter};
 ghost use Rattle.tree.specs.Lent.{Lent};
@@ -94,6 +96,28 @@ pub fn fill_row(
     rows::row_into(&mut out[..len], us, vs, ws, meters, d, penalty, i);
 }
 
+// The energy of an assignment; in the lent places each link's arc bits are counted.
+fn energy_with(
+    bits: &[u8],
+    used: &mut [u8],
+    us: &[u8],
+    vs: &[u8],
+    ws: &[u16],
+    meters: usize,
+    d: usize,
+    penalty: u64,
+) -> i64
+    requires { ⌜ Lent meters d (now us) (now vs) (now ws) × (penalty ≤ 20000000) × Assignment (bitCount meters (length (now us)) d) (now bits) × (length (now used) ≡ length (now us)) ⌝ }
+    ensures { λ r. ⌜ r ≡ value (formula penalty meters d (linksOf (now (us .entry)) (now (vs .entry)) (now (ws .entry)))) (now (bits .entry)) ⌝ }
+{
+    arcs::sums::count_used(used, bits, meters, meters / 2);
+    let at_choices = sums::broken_choices(bits, us, vs, ws, meters, d);
+    let at_arcs = sums::broken_arcs(bits, used, us, vs, ws, meters, d);
+    let cost = arcs::sums::arc_cost(used, ws);
+    let sum = penalty * (at_choices + at_arcs) + cost;
+    sum as i64
+}
+
 // The energy of an assignment, by the formula itself.
 pub fn energy(
     bits: &[u8],
@@ -107,10 +131,9 @@ pub fn energy(
     requires { ⌜ Lent meters d (now us) (now vs) (now ws) × (penalty ≤ 20000000) × Assignment (bitCount meters (length (now us)) d) (now bits) ⌝ }
     ensures { λ r. ⌜ r ≡ value (formula penalty meters d (linksOf (now (us .entry)) (now (vs .entry)) (now (ws .entry)))) (now (bits .entry)) ⌝ }
 {
-    let broken = sums::broken_of(bits, us, vs, ws, meters, d);
-    let cost = arcs::sums::arc_cost(bits, us, vs, ws, meters, meters / 2);
-    let sum = penalty * broken + cost;
-    sum as i64
+    let n = us.len();
+    let mut used: [u8; 256] = [0; 256];
+    energy_with(bits, &mut used[..n], us, vs, ws, meters, d, penalty)
 }
 
 // Whether the bytes are a plan: parents that make a tree within the neighbour limit, with no depth over D. Where they are, the bits are then its code. Depths take a walk up from each meter, so they are found once for both.
@@ -135,7 +158,32 @@ pub fn encode_plan(
     true
 }
 
-// The plan that an assignment codes, if any: bits code a plan exactly where the six sums are 0, and it is then read off the arcs.
+// The plan of bits that have one root, and one depth and one number of neighbours for each meter: there is one exactly where the sums over arcs are 0 too, and it is then read off the arcs. In the lent places each link's arc bits are counted.
+fn decode_arcs(
+    bits: &[u8],
+    used: &mut [u8],
+    us: &[u8],
+    vs: &[u8],
+    ws: &[u16],
+    meters: usize,
+    d: usize,
+    plan: &mut [u8],
+) -> Decoded
+    requires { ⌜ Lent meters d (now us) (now vs) (now ws) × Assignment (bitCount meters (length (now us)) d) (now bits) × (length (now plan) ≡ meters) × (length (now used) ≡ length (now us)) × (brokenChoices meters (deepest meters) d (bitsOf meters (deepest meters) (length (now us)) d (now bits)) ≡ 0) ⌝ }
+    ensures answer { λ r. ⌜ r ≡ answerOf meters d (linksOf (now (us .entry)) (now (vs .entry)) (now (ws .entry))) (now (bits .entry)) ⌝ }
+    ensures plan { λ r. ⌜ now (plan .exit) ≡ planAfter meters d (linksOf (now (us .entry)) (now (vs .entry)) (now (ws .entry))) (now (bits .entry)) (now (plan .entry)) ⌝ }
+{
+    let deep = meters / 2;
+    arcs::sums::count_used(used, bits, meters, deep);
+    if sums::broken_arcs(bits, used, us, vs, ws, meters, d) != 0 {
+        return Decoded::NoPlan;
+    }
+    codes::read_parents(bits, used, us, vs, ws, meters, deep, plan);
+    let weight = plans::tree_weight(plan, us, vs, ws);
+    Decoded::Plan { weight: weight }
+}
+
+// The plan that an assignment codes, if any. The sums that look at no arc come first: they have few bits, and bits that are no code seldom pass them.
 pub fn decode(
     bits: &[u8],
     us: &[u8],
@@ -149,11 +197,10 @@ pub fn decode(
     ensures answer { λ r. ⌜ r ≡ answerOf meters d (linksOf (now (us .entry)) (now (vs .entry)) (now (ws .entry))) (now (bits .entry)) ⌝ }
     ensures plan { λ r. ⌜ now (plan .exit) ≡ planAfter meters d (linksOf (now (us .entry)) (now (vs .entry)) (now (ws .entry))) (now (bits .entry)) (now (plan .entry)) ⌝ }
 {
-    if !sums::is_unbroken(bits, us, vs, ws, meters, d) {
+    if sums::broken_choices(bits, us, vs, ws, meters, d) != 0 {
         return Decoded::NoPlan;
     }
-    let deep = meters / 2;
-    codes::read_parents(bits, us, vs, ws, meters, deep, plan);
-    let weight = plans::tree_weight(plan, us, vs, ws);
-    Decoded::Plan { weight: weight }
+    let n = us.len();
+    let mut used: [u8; 256] = [0; 256];
+    decode_arcs(bits, &mut used[..n], us, vs, ws, meters, d, plan)
 }

@@ -13,14 +13,14 @@ use Rattle.arcs.proofs.sums.end_misses.Tie as tie
 
 -- the arcs of the first k links are done
 abbrev Inv-loop : tie.InvT-loop
-Inv-loop bits us vs ws meters deepest sum₀ k₀ sum k = (k ≤ length us) × (sum ≤ 96 * k) × ArcsSummed us vs ws (missesOf meters deepest bits) k sum
+Inv-loop bits used us vs ws meters deepest sum₀ k₀ sum k = (k ≤ length us) × (sum ≤ 96 * k) × ArcsSummed us vs ws (missesOf meters deepest bits) k sum
 
 abbrev μ-loop : tie.MeasureT-loop
-μ-loop bits us vs ws meters deepest sum₀ k₀ sum k = length us - k
+μ-loop bits used us vs ws meters deepest sum₀ k₀ sum k = length us - k
 
 loop-holds : tie.Need-loop-holds Inv-loop μ-loop
 loop-holds c =
-    let s = c .before .before .before .before in
+    let s = c .before .before .before .before .before in
     (omega arith, omega arith, summed-start (s .args .us .now) (s .args .vs .now) (s .args .ws .now) (missesOf (s .args .meters) (s .args .deepest) (s .args .bits .now)))
 
 shared-slice-read-u : tie.Need-shared-slice-read-u Inv-loop μ-loop
@@ -28,32 +28,35 @@ shared-slice-read-u c = omega arith
 
 cast-u : tie.Need-cast-u Inv-loop μ-loop
 cast-u c =
-    let s = c .before .before .before .before .before .before .before in
+    let s = c .before .before .before .before .before .before .before .before in
     let l = c .before .before .loop in
     let k = link-at (s .args .meters) (s .args .us .now) (s .args .vs .now) (s .args .ws .now) (s .pre .0 .arrays) (l .k) (omega arith) in
     omega arith
 
 shared-slice-read-v : tie.Need-shared-slice-read-v Inv-loop μ-loop
-shared-slice-read-v c = omega (arith, c .before .before .before .before .before .before .before .before .pre .0 .arrays .same-v)
+shared-slice-read-v c = omega (arith, c .before .before .before .before .before .before .before .before .before .pre .0 .arrays .same-v)
 
 cast-v : tie.Need-cast-v Inv-loop μ-loop
 cast-v c =
-    let s = c .before .before .before .before .before .before .before .before in
+    let s = c .before .before .before .before .before .before .before .before .before in
     let l = c .before .before .before .loop in
     let k = link-at (s .args .meters) (s .args .us .now) (s .args .vs .now) (s .args .ws .now) (s .pre .0 .arrays) (l .k) (omega arith) in
     omega arith
 
+shared-slice-read-link-misses : tie.Need-shared-slice-read-link-misses Inv-loop μ-loop
+shared-slice-read-link-misses c = omega (arith, c .before .before .before .before .before .before .before .before .before .before .pre .3 .size)
+
 link-misses-requires : tie.Need-link-misses-requires Inv-loop μ-loop
 link-misses-requires c κs =
-    let s = c .before .before .before .before .before .before .before .before in
-    let l = c .before .before .before .loop in
+    let s = c .before .before .before .before .before .before .before .before .before .before in
+    let l = c .before .before .before .before .loop in
     let k = link-at (s .args .meters) (s .args .us .now) (s .args .vs .now) (s .args .ws .now) (s .pre .0 .arrays) (l .k) (omega arith) in
-    (s .pre .0 .arrays .survey .meters-high, s .pre .0 .deep, omega (arith, arrays-few (s .args .meters) (s .args .us .now) (s .args .vs .now) (s .args .ws .now) (s .pre .0 .arrays)), k .0, omega arith, omega arith, k .2, s .pre .1, omega (arith, arc-within (s .args .meters) (s .args .deepest) (length (s .args .us .now)) (2 * l .k + 1) (omega arith), s .pre .2))
+    (s .pre .0 .arrays .survey .meters-high, s .pre .0 .deep, omega (arith, arrays-few (s .args .meters) (s .args .us .now) (s .args .vs .now) (s .args .ws .now) (s .pre .0 .arrays)), k .0, omega arith, omega arith, k .2, s .pre .1, omega (arith, arc-within (s .args .meters) (s .args .deepest) (length (s .args .us .now)) (2 * l .k + 1) (omega arith), s .pre .2), s .pre .3 .each (l .k) (omega arith))
 
 add-sum : tie.Need-add-sum Inv-loop μ-loop
 add-sum c =
-    let s = c .before .before .before .before .before .before .before .before .before in
-    let l = c .before .before .before .before .loop in
+    let s = c .before .before .before .before .before .before .before .before .before .before .before in
+    let l = c .before .before .before .before .before .loop in
     omega (arith, c .link-misses .ensures .1, arrays-few (s .args .meters) (s .args .us .now) (s .args .vs .now) (s .args .ws .now) (s .pre .0 .arrays))
 
 add-k : tie.Need-add-k Inv-loop μ-loop
@@ -64,15 +67,15 @@ loop-less c = omega arith
 
 loop-again : tie.Need-loop-again Inv-loop μ-loop
 loop-again c =
-    let s = c .before .before .before .before .before .before .before .before .before in
-    let l = c .before .before .before .before .loop in
+    let s = c .before .before .before .before .before .before .before .before .before .before .before in
+    let l = c .before .before .before .before .before .loop in
     let r = c .link-misses in
-    let h = c .before .before .before .loop-test .taken in
+    let h = c .before .before .before .before .loop-test .taken in
     (omega (arith, h), omega (arith, r .ensures .1), summed-turn (s .args .us .now) (s .args .vs .now) (s .args .ws .now) (missesOf (s .args .meters) (s .args .deepest) (s .args .bits .now)) (l .k) (l .sum) (l .inv .2) (r .result) h (misses-link (s .args .meters) (s .args .deepest) (s .args .bits .now) (s .args .us .now) (s .args .vs .now) (s .args .ws .now) (l .k) (r .result) (r .ensures .0)))
 
 returns : tie.Need-returns Inv-loop μ-loop
 returns c =
-    let s = c .before .before .before .before .before .before in
+    let s = c .before .before .before .before .before .before .before in
     let l = c .before .loop in
     (summed-end (s .args .us .now) (s .args .vs .now) (s .args .ws .now) (missesOf (s .args .meters) (s .args .deepest) (s .args .bits .now)) (l .k) (l .sum) (l .inv .2) (omega arith) ∙ misses-sum (s .args .meters) (s .args .deepest) (arcs (linksOf (s .args .us .now) (s .args .vs .now) (s .args .ws .now))) (s .args .bits .now), omega (arith, arrays-few (s .args .meters) (s .args .us .now) (s .args .vs .now) (s .args .ws .now) (s .pre .0 .arrays)))
 
@@ -87,6 +90,7 @@ end-misses-spec =
     cast-u
     shared-slice-read-v
     cast-v
+    shared-slice-read-link-misses
     link-misses-requires
     add-sum
     add-k

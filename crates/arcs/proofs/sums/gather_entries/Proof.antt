@@ -1,21 +1,21 @@
 use Prim.Native.Nat.{_-_}
 use lib.ListN.{length}
 use native.Mathlib.Omega.{arith}
-use Rattle.links.proofs.Walk.{link-at, arrays-few}
-use Rattle.arcs.proofs.Entered.{EnteredTo, entered-start, up-room, back-room, entered-turn, entered-end}
+use Rattle.links.proofs.Walk.{link-at}
+use Rattle.arcs.proofs.Entered.{EnteredTo, entered-start, entered-room, entered-turn, entered-end}
 use Rattle.arcs.proofs.sums.gather_entries.Statement.{statement}
 use Rattle.arcs.proofs.sums.gather_entries.Tie as tie
 
 -- the arcs of the first k links are counted
 abbrev Inv-loop : tie.InvT-loop
-Inv-loop counts₀ bits us vs ws meters deepest k₀ counts k = EnteredTo meters deepest bits us vs ws k counts
+Inv-loop counts₀ bits used us vs ws meters deepest k₀ counts k = EnteredTo meters deepest bits us vs ws k counts
 
 abbrev μ-loop : tie.MeasureT-loop
-μ-loop counts₀ bits us vs ws meters deepest k₀ counts k = length us - k
+μ-loop counts₀ bits used us vs ws meters deepest k₀ counts k = length us - k
 
 loop-holds : tie.Need-loop-holds Inv-loop μ-loop
 loop-holds c =
-    let s = c .before .before .before .before .before in
+    let s = c .before .before .before .before .before .before in
     entered-start (s .args .meters) (s .args .deepest) (s .args .bits .now) (s .args .us .now) (s .args .vs .now) (s .args .ws .now) (s .args .counts .now) (s .pre .3) (s .pre .4)
 
 shared-slice-read-u : tie.Need-shared-slice-read-u Inv-loop μ-loop
@@ -23,50 +23,27 @@ shared-slice-read-u c = omega arith
 
 cast-u : tie.Need-cast-u Inv-loop μ-loop
 cast-u c =
-    let s = c .before .before .before .before .before .before .before .before in
+    let s = c .before .before .before .before .before .before .before .before .before in
     let l = c .before .before .loop in
     omega (arith, link-at (s .args .meters) (s .args .us .now) (s .args .vs .now) (s .args .ws .now) (s .pre .0 .arrays) (l .k) (omega arith))
 
 shared-slice-read-v : tie.Need-shared-slice-read-v Inv-loop μ-loop
-shared-slice-read-v c = omega (arith, c .before .before .before .before .before .before .before .before .before .pre .0 .arrays .same-v)
+shared-slice-read-v c = omega (arith, c .before .before .before .before .before .before .before .before .before .before .pre .0 .arrays .same-v)
 
 cast-v : tie.Need-cast-v Inv-loop μ-loop
 cast-v c =
-    let s = c .before .before .before .before .before .before .before .before .before in
+    let s = c .before .before .before .before .before .before .before .before .before .before in
     let l = c .before .before .before .loop in
     omega (arith, link-at (s .args .meters) (s .args .us .now) (s .args .vs .now) (s .args .ws .now) (s .pre .0 .arrays) (l .k) (omega arith))
 
-mul-add-arc : tie.Need-mul-add-arc Inv-loop μ-loop
-mul-add-arc c =
-    let s = c .before .before .before .before .before .before .before .before .before .before in
-    let l = c .before .before .before .before .loop in
-    omega (arith, arrays-few (s .args .meters) (s .args .us .now) (s .args .vs .now) (s .args .ws .now) (s .pre .0 .arrays))
+shared-slice-read-add-link : tie.Need-shared-slice-read-add-link Inv-loop μ-loop
+shared-slice-read-add-link c = omega (arith, c .before .before .before .before .before .before .before .before .before .before .before .before .pre .5 .size)
 
-add-arc-requires : tie.Need-add-arc-requires Inv-loop μ-loop
-add-arc-requires c κs =
-    let s = c .before .before .before .before .before .before .before .before .before .before in
-    let l = c .before .before .before .before .loop in
-    let e = link-at (s .args .meters) (s .args .us .now) (s .args .vs .now) (s .args .ws .now) (s .pre .0 .arrays) (l .k) (omega arith) in
-    let r = up-room (s .args .meters) (s .args .deepest) (s .args .bits .now) (s .args .us .now) (s .args .vs .now) (s .args .ws .now) (s .pre .0) (s .pre .1) (s .pre .2) (l .k) (omega arith) (l .counts) (l .inv) in
-    (r .0, r .1, r .2, omega (arith, e), omega (arith, e), r .5, r .6, r .7, r .8)
-
-mul-add-arc-2 : tie.Need-mul-add-arc-2 Inv-loop μ-loop
-mul-add-arc-2 c =
-    let s = c .before .before .before .before .before .before .before .before .before .before .before .before .before .before in
-    let l = c .before .before .before .before .before .before .before .before .loop in
-    omega (arith, arrays-few (s .args .meters) (s .args .us .now) (s .args .vs .now) (s .args .ws .now) (s .pre .0 .arrays))
-
-add-add-arc : tie.Need-add-add-arc Inv-loop μ-loop
-add-add-arc c =
-    let s = c .before .before .before .before .before .before .before .before .before .before .before .before .before .before in
-    let l = c .before .before .before .before .before .before .before .before .loop in
-    omega (arith, arrays-few (s .args .meters) (s .args .us .now) (s .args .vs .now) (s .args .ws .now) (s .pre .0 .arrays))
-
-add-arc-requires-2 : tie.Need-add-arc-requires-2 Inv-loop μ-loop
-add-arc-requires-2 c κs =
-    let s = c .before .before .before .before .before .before .before .before .before .before .before .before .before .before in
-    let l = c .before .before .before .before .before .before .before .before .loop in
-    back-room (s .args .meters) (s .args .deepest) (s .args .bits .now) (s .args .us .now) (s .args .vs .now) (s .args .ws .now) (s .pre .0) (s .pre .1) (s .pre .2) (l .k) (omega arith) (l .counts) (l .inv) (c .before .before .before .add-arc .last .0) (c .before .before .before .add-arc .ensures)
+add-link-requires : tie.Need-add-link-requires Inv-loop μ-loop
+add-link-requires c κs =
+    let s = c .before .before .before .before .before .before .before .before .before .before .before .before in
+    let l = c .before .before .before .before .before .loop in
+    (entered-room (s .args .meters) (s .args .deepest) (s .args .bits .now) (s .args .us .now) (s .args .vs .now) (s .args .ws .now) (s .pre .0) (s .pre .1) (s .pre .2) (l .k) (omega arith) (l .counts) (l .inv), s .pre .5 .each (l .k) (omega arith))
 
 add-k : tie.Need-add-k Inv-loop μ-loop
 add-k c = omega arith
@@ -76,16 +53,16 @@ loop-less c = omega arith
 
 loop-again : tie.Need-loop-again Inv-loop μ-loop
 loop-again c =
-    let s = c .before .before .before .before .before .before .before .before .before .before .before .before .before .before .before .before .before in
-    let l = c .before .before .before .before .before .before .before .before .before .before .before .loop in
-    entered-turn (s .args .meters) (s .args .deepest) (s .args .bits .now) (s .args .us .now) (s .args .vs .now) (s .args .ws .now) (s .pre .0) (s .pre .1) (s .pre .2) (l .k) (omega arith) (l .counts) (l .inv) (c .before .before .before .before .before .before .add-arc .last .0) (c .before .before .before .before .before .before .add-arc .ensures) (c .before .before .add-arc2 .last .0) (c .before .before .add-arc2 .ensures)
+    let s = c .before .before .before .before .before .before .before .before .before .before .before .before .before .before .before in
+    let l = c .before .before .before .before .before .before .before .before .loop in
+    entered-turn (s .args .meters) (s .args .deepest) (s .args .bits .now) (s .args .us .now) (s .args .vs .now) (s .args .ws .now) (s .pre .0) (s .pre .1) (s .pre .2) (l .k) (omega arith) (l .counts) (l .inv) (c .before .before .add-link .last .0) (c .before .before .add-link .ensures)
 
 same-length : tie.Need-same-length Inv-loop μ-loop
-same-length c = omega (arith, c .before .loop .inv .size, c .before .before .before .before .before .before .before .pre .3)
+same-length c = omega (arith, c .before .loop .inv .size, c .before .before .before .before .before .before .before .before .pre .3)
 
 returns : tie.Need-returns Inv-loop μ-loop
 returns c =
-    let s = c .before .before .before .before .before .before .before in
+    let s = c .before .before .before .before .before .before .before .before in
     let l = c .before .loop in
     (l .inv .size, entered-end (s .args .meters) (s .args .deepest) (s .args .bits .now) (s .args .us .now) (s .args .vs .now) (s .args .ws .now) (l .k) (l .counts) (l .inv) (omega arith))
 
@@ -100,11 +77,8 @@ gather-entries-spec =
     cast-u
     shared-slice-read-v
     cast-v
-    mul-add-arc
-    add-arc-requires
-    mul-add-arc-2
-    add-add-arc
-    add-arc-requires-2
+    shared-slice-read-add-link
+    add-link-requires
     add-k
     loop-less
     loop-again

@@ -12,12 +12,12 @@ slice-aggregate-gather-touches c = search needs
 
 gather-touches-requires : tie.Need-gather-touches-requires
 gather-touches-requires c κs =
-    let p = c .before .before .before .before .before .pre in
-    (p .0, p .2 .bits, omega (arith, p .2 .size), refl, zero-entries 256)
+    let p = c .before .before .before .before .before .before .pre in
+    (p .0, p .2 .bits, omega (arith, p .2 .size), refl, zero-entries 256, p .3)
 
 first-count-requires : tie.Need-first-count-requires
 first-count-requires c κs =
-    let p = c .before .before .before .before .before .before .before .pre in
+    let p = c .before .before .before .before .before .before .before .before .pre in
     (p .0 .arrays .survey .meters-high, p .0 .deep, arrays-few _ _ _ _ (p .0 .arrays))
 
 slice-aggregate-gaps-of : tie.Need-slice-aggregate-gaps-of
@@ -34,7 +34,7 @@ part-gaps-of-end c = search needs
 
 gaps-of-requires : tie.Need-gaps-of-requires
 gaps-of-requires c κs =
-    let p = c .before .before .before .before .before .before .before .before .before .before .pre in
+    let p = c .before .before .before .before .before .before .before .before .before .before .before .pre in
     let e = c .before .before .before .before .gather-touches .ensures in
     (p .0 .arrays .survey .meters-high, p .1, omega (arith, e .0, p .0 .arrays .survey .meters-high), e .2, counts-behind _ _ _ _ _ (c .before .before .first-count .ensures .0) _ (p .2) .1)
 

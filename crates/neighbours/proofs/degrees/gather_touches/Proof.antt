@@ -2,63 +2,62 @@ use Rattle.links.proofs.Walk.{arrays-few}
 use Prim.Native.Nat.{_-_}
 use lib.ListN.{length}
 use native.Mathlib.Omega.{arith}
-use Rattle.neighbours.proofs.DegreeSums.{Gathered, gather-start, first-ready, second-ready, gather-turn, gather-end, gather-low, links-within}
+use Rattle.neighbours.proofs.DegreeSums.{Gathered, gather-start, first-ready, second-ready, gather-turn, gather-end, gather-low}
 use Rattle.neighbours.proofs.degrees.gather_touches.Statement.{statement}
 use Rattle.neighbours.proofs.degrees.gather_touches.Tie as tie
 
 -- the arcs of the links before k are counted
 abbrev Inv-loop : tie.InvT-loop
-Inv-loop sums₀ bits us vs ws meters deepest k₀ sums k = Gathered meters deepest bits us vs ws k sums
+Inv-loop sums₀ bits used us vs ws meters deepest k₀ sums k = Gathered meters deepest bits us vs ws k sums
 
 abbrev μ-loop : tie.MeasureT-loop
-μ-loop sums₀ bits us vs ws meters deepest k₀ sums k = length us - k
+μ-loop sums₀ bits used us vs ws meters deepest k₀ sums k = length us - k
 
 loop-holds : tie.Need-loop-holds Inv-loop μ-loop
 loop-holds c =
-    let s = c .before .before .before .before .before in
+    let s = c .before .before .before .before .before .before in
     gather-start _ _ _ _ _ _ _ (s .pre .3) (s .pre .4)
 
-link-set-requires : tie.Need-link-set-requires Inv-loop μ-loop
-link-set-requires c κs =
-    let s = c .before .before .before .before .before .before .before in
-    let p = s .pre in
-    let l = c .before .loop in
-    (p .0 .arrays .survey .meters-high, p .0 .deep, omega (arith, l .inv .inside, arrays-few _ _ _ _ (p .0 .arrays)), p .1, links-within _ _ _ (l .k) _ (c .loop-test .taken) (p .2))
+shared-slice-read-both : tie.Need-shared-slice-read-both Inv-loop μ-loop
+shared-slice-read-both c = omega (arith, c .before .before .before .before .before .before .before .before .before .pre .5 .size)
+
+cast-both : tie.Need-cast-both Inv-loop μ-loop
+cast-both c = omega (arith, c .shared-slice-known6 .given (c .before .before .loop .k))
 
 shared-slice-read-add-count : tie.Need-shared-slice-read-add-count Inv-loop μ-loop
 shared-slice-read-add-count c = c .before .before .before .loop-test .taken
 
 cast-add-count : tie.Need-cast-add-count Inv-loop μ-loop
-cast-add-count c = omega (arith, c .shared-slice-known5 .given (c .before .before .before .before .loop .k))
+cast-add-count c = omega (arith, c .shared-slice-known7 .given (c .before .before .before .before .loop .k))
 
 add-count-requires : tie.Need-add-count-requires Inv-loop μ-loop
 add-count-requires c κs =
-    let s = c .before .before .before .before .before .before .before .before .before .before in
+    let s = c .before .before .before .before .before .before .before .before .before .before .before in
     let l = c .before .before .before .before .loop in
     let h = c .before .before .before .loop-test .taken in
-    first-ready _ _ _ _ _ _ (s .pre .0) (s .pre .1) (l .k) h _ (l .inv) _ (c .before .before .link-set .ensures .0)
+    first-ready _ _ _ _ _ _ (s .pre .0) (s .pre .1) (l .k) h _ (l .inv) _ (s .pre .5 .each (l .k) h)
 
 shared-slice-read-add-count-2 : tie.Need-shared-slice-read-add-count-2 Inv-loop μ-loop
 shared-slice-read-add-count-2 c =
-    let s = c .before .before .before .before .before .before .before .before .before .before .before .before .before .before .before in
+    let s = c .before .before .before .before .before .before .before .before .before .before .before .before .before .before .before .before in
     let l = c .before .before .before .before .before .before .before .before .before .loop in
     let h = c .before .before .before .before .before .before .before .before .loop-test .taken in
     omega (arith, s .pre .0 .arrays .same-v)
 
 cast-add-count-2 : tie.Need-cast-add-count-2 Inv-loop μ-loop
-cast-add-count-2 c = omega (arith, c .shared-slice-known6 .given (c .before .before .before .before .before .before .before .before .before .loop .k))
+cast-add-count-2 c = omega (arith, c .shared-slice-known8 .given (c .before .before .before .before .before .before .before .before .before .loop .k))
 
 add-count-requires-2 : tie.Need-add-count-requires-2 Inv-loop μ-loop
 add-count-requires-2 c κs =
-    let s = c .before .before .before .before .before .before .before .before .before .before .before .before .before .before .before in
+    let s = c .before .before .before .before .before .before .before .before .before .before .before .before .before .before .before .before in
     let l = c .before .before .before .before .before .before .before .before .before .loop in
     let h = c .before .before .before .before .before .before .before .before .loop-test .taken in
-    let x = second-ready _ _ _ _ _ _ (s .pre .0) (s .pre .1) (l .k) h _ (l .inv) _ (c .before .before .before .before .before .before .before .link-set .ensures .0) _ (c .before .before .before .before .add-count .ensures) in
+    let x = second-ready _ _ _ _ _ _ (s .pre .0) (s .pre .1) (l .k) h _ (l .inv) _ (s .pre .5 .each (l .k) h) _ (c .before .before .before .before .add-count .ensures) in
     (x .0, x .1, omega (arith, x .2))
 
 add-k : tie.Need-add-k Inv-loop μ-loop
 add-k c =
-    let s = c .before .before .before .before .before .before .before .before .before .before .before .before .before .before .before .before .before .before in
+    let s = c .before .before .before .before .before .before .before .before .before .before .before .before .before .before .before .before .before .before .before in
     let l = c .before .before .before .before .before .before .before .before .before .before .before .before .loop in
     let h = c .before .before .before .before .before .before .before .before .before .before .before .loop-test .taken in
     omega (arith, arrays-few _ _ _ _ (s .pre .0 .arrays))
@@ -68,19 +67,19 @@ loop-less c = let h = c .before .before .before .before .before .before .before 
 
 loop-again : tie.Need-loop-again Inv-loop μ-loop
 loop-again c =
-    let s = c .before .before .before .before .before .before .before .before .before .before .before .before .before .before .before .before .before .before in
+    let s = c .before .before .before .before .before .before .before .before .before .before .before .before .before .before .before .before .before .before .before in
     let l = c .before .before .before .before .before .before .before .before .before .before .before .before .loop in
     let h = c .before .before .before .before .before .before .before .before .before .before .before .loop-test .taken in
-    gather-turn _ _ _ _ _ _ (s .pre .0) (s .pre .1) (l .k) h _ (l .inv) _ (c .before .before .before .before .before .before .before .before .before .before .link-set .ensures .0) _ (c .before .before .before .before .before .before .before .add-count .ensures) _ (c .before .before .add-count2 .ensures)
+    gather-turn _ _ _ _ _ _ (s .pre .0) (s .pre .1) (l .k) h _ (l .inv) _ (s .pre .5 .each (l .k) h) _ (c .before .before .before .before .before .before .before .add-count .ensures) _ (c .before .before .add-count2 .ensures)
 
 same-length : tie.Need-same-length Inv-loop μ-loop
 same-length c =
-    let s = c .before .before .before .before .before .before .before in
+    let s = c .before .before .before .before .before .before .before .before in
     omega (arith, c .before .loop .inv .size, s .pre .3)
 
 returns : tie.Need-returns Inv-loop μ-loop
 returns c =
-    let s = c .before .before .before .before .before .before .before in
+    let s = c .before .before .before .before .before .before .before .before in
     let l = c .before .loop in
     (l .inv .size, gather-end _ _ _ _ _ _ (s .pre .0) _ _ (l .inv) (c .loop-test .left), gather-low _ _ _ _ _ _ (s .pre .0) _ _ (l .inv))
 
@@ -91,7 +90,8 @@ gather-touches-spec =
     Inv-loop
     μ-loop
     loop-holds
-    link-set-requires
+    shared-slice-read-both
+    cast-both
     shared-slice-read-add-count
     cast-add-count
     add-count-requires

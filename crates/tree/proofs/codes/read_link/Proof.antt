@@ -1,47 +1,27 @@
-use Prim.Native.Nat.{_+_}
 use mathlib.Core.Path.{sym, ap, _∙_}
 use native.Mathlib.Omega.{arith}
-use Rattle.arcs.proofs.Slices.{slice-short}
 use Rattle.tree.specs.Stores.{added}
-use Rattle.tree.proofs.ReadParents.{link-set, link-none, read-small}
+use Rattle.tree.proofs.ReadParents.{link-none, read-small}
 use borrow.Author.Needs.{needs}
 use Rattle.tree.proofs.codes.read_link.Statement.{statement}
 use Rattle.tree.proofs.codes.read_link.Tie as tie
 
+returns : tie.Need-returns
+returns c =
+    let s = c .before .before .before in
+    link-none _ _ _ _ _ _ (s .pre .1 .0) (s .pre .1 .1) (s .pre .1 .3) (sym (s .pre .0 .5) ∙ c .if1 .taken)
+
 add-middle : tie.Need-add-middle
 add-middle c = search needs
 
-add-end : tie.Need-add-end
-add-end c = search needs
-
-sub-set-count : tie.Need-sub-set-count
-sub-set-count c = search needs
-
-part-set-count-start : tie.Need-part-set-count-start
-part-set-count-start c = search needs
-
-part-set-count-end : tie.Need-part-set-count-end
-part-set-count-end c = search needs
-
-set-count-requires : tie.Need-set-count-requires
-set-count-requires c κs =
-    let s = c .before .before .before in
-    let a = s .args in
-    slice-short (a .bits .now) (a .start) (a .start + a .deepest + a .deepest) (a .deepest + a .deepest) (omega arith) (s .pre .0 .2) (omega arith) (s .pre .0 .0)
-
-returns : tie.Need-returns
-returns c =
-    let s = c .before .before .before .before .before in
-    link-none _ _ _ _ _ _ (s .pre .1 .0) (s .pre .1 .1) (s .pre .1 .3) (sym (c .before .set-count .ensures ∙ link-set _ _ _ (s .pre .0 .2)) ∙ c .if1 .taken)
-
 read-arc-requires : tie.Need-read-arc-requires
 read-arc-requires c κs =
-    let p = c .before .before .before .before .before .before .pre in
+    let p = c .before .before .before .before .pre in
     ((p .0 .0, p .0 .1, omega (arith, p .0 .2), p .0 .3), (omega (arith, p .1 .1, p .1 .2), omega (arith, p .1 .0, p .1 .1), p .1 .3, p .1 .4))
 
 read-arc-requires-2 : tie.Need-read-arc-requires-2
 read-arc-requires-2 c κs =
-    let p = c .before .before .before .before .before .before .before .before .before .before .pre in
+    let p = c .before .before .before .before .before .before .before .before .pre in
     let r = c .before .before .before .read-arc in
     ((p .0 .0, p .0 .1, p .0 .2, p .0 .4), (omega (arith, p .1 .1, p .1 .2), omega (arith, p .1 .0, p .1 .1), omega (arith, p .1 .1, p .1 .3, r .kept .1 .1 .1 .1 .1 .0), read-small _ _ (r .ensures) (p .1 .5)))
 
@@ -54,15 +34,4 @@ returns-2 c = c .before .before .read-arc2 .ensures ∙ ap (added _ _) (c .befor
 pub read-link-spec : {M : Type 1} → statement M
 read-link-spec =
     tie.close
-    (tie.spec
-    add-middle
-    add-end
-    sub-set-count
-    part-set-count-start
-    part-set-count-end
-    set-count-requires
-    returns
-    read-arc-requires
-    read-arc-requires-2
-    same-length
-    returns-2)
+    (tie.spec returns add-middle read-arc-requires read-arc-requires-2 same-length returns-2)
