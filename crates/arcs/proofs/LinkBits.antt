@@ -13,20 +13,13 @@ use Rattle.qubo.specs.Formula.{Bits}
 use Rattle.arcs.specs.Arcs.{arcsEnd, arcAt}
 use Rattle.arcs.specs.Walks.{linkSet, Used}
 use Rattle.arcs.proofs.ArcLists.{arcUp, arcBack}
-use Rattle.arcs.proofs.Slices.{slice, slice-sum, slice-short, link-within}
+use Rattle.arcs.proofs.Slices.{slice, slice-sum, link-within}
 
 -- ---- link_set: those of link k
 
-module _ (N D k : ℕ) (x : List ℕ) (s e : ℕ) (start : s ≡ N * suc D + 2 * k * D) (end : e ≡ s + 2 * D) (fits : arcsEnd N D (k + 1) ≤ length x) where
-  pub link-end : e ≤ length x
-  link-end = omega (arith, link-within N D (k + 1) k (omega arith))
-
-  pub link-short : D ≤ 24 → Bits x → Bits (slice x s e) × (length (slice x s e) < 256)
-  link-short h = slice-short x s e (2 * D) end link-end (omega arith)
-
-  pub link-set-is : (r : ℕ) → r ≡ sumTo (length (slice x s e)) (nth (slice x s e)) → r ≡ linkSet N D x k
-  unfolding linkSet
-  link-set-is r h = h ∙ slice-sum x s e (2 * D) end link-end ∙ ap (λ (j : ℕ). sumTo (2 * D) (λ t. getD x (j + pred t) 0)) start
+pub link-set-is : (N D k : ℕ) (x : List ℕ) (s e : ℕ) → s ≡ N * suc D + 2 * k * D → e ≡ s + 2 * D → arcsEnd N D (k + 1) ≤ length x → (r : ℕ) → r ≡ sumTo (length (slice x s e)) (nth (slice x s e)) → r ≡ linkSet N D x k
+unfolding linkSet
+link-set-is N D k x s e start end fits r h = h ∙ slice-sum x s e (2 * D) end (omega (arith, link-within N D (k + 1) k (omega arith))) ∙ ap (λ (j : ℕ). sumTo (2 * D) (λ t. getD x (j + pred t) 0)) start
 
 -- the bits of each of M links lie among those of all
 pub links-within : (N D M k L : ℕ) → k < M → arcsEnd N D M ≤ L → arcsEnd N D (k + 1) ≤ L

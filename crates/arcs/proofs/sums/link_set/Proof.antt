@@ -1,7 +1,8 @@
 use Prim.Native.Nat.{_+_, _*_}
 use mathlib.Core.Path.{refl}
 use native.Mathlib.Omega.{arith}
-use Rattle.arcs.proofs.LinkBits.{link-end, link-short, link-set-is, link-set-low}
+use Rattle.arcs.proofs.Slices.{slice-short, link-within}
+use Rattle.arcs.proofs.LinkBits.{link-set-is, link-set-low}
 use borrow.Author.Needs.{needs}
 use Rattle.arcs.proofs.sums.link_set.Statement.{statement}
 use Rattle.arcs.proofs.sums.link_set.Tie as tie
@@ -27,14 +28,13 @@ part-set-count-start c = search needs
 part-set-count-end : tie.Need-part-set-count-end
 part-set-count-end c =
     let s = c .before .before in
-    let a = c .arc-start in
-    link-end (s .args .meters) (s .args .deepest) (s .args .k) (s .args .bits .now) (a .result) (a .result + 2 * s .args .deepest) (a .ensures .0) refl (s .pre .4)
+    omega (arith, c .arc-start .ensures .0, link-within (s .args .meters) (s .args .deepest) (s .args .k + 1) (s .args .k) (omega arith), s .pre .4)
 
 set-count-requires : tie.Need-set-count-requires
 set-count-requires c κs =
     let s = c .before .before .before in
     let a = c .before .arc-start in
-    link-short (s .args .meters) (s .args .deepest) (s .args .k) (s .args .bits .now) (a .result) (a .result + 2 * s .args .deepest) (a .ensures .0) refl (s .pre .4) (s .pre .1) (s .pre .3)
+    slice-short (s .args .bits .now) (a .result) _ _ refl (omega (arith, a .ensures .0, link-within (s .args .meters) (s .args .deepest) (s .args .k + 1) (s .args .k) (omega arith), s .pre .4)) (omega arith) (s .pre .3)
 
 cast-result : tie.Need-cast-result
 cast-result c =
