@@ -60,7 +60,7 @@ pub fn count_number(weights: &[u16; 2500], meters: usize, d: usize, v: usize, j:
     arcs_end(weights, meters) + numbers::cell(numbers::before(v), d, numbers::before(j))
 }
 
-// How many bits there are.
-pub fn bit_count(weights: &[u16; 2500], meters: usize, d: usize) -> usize {
-    arcs_end(weights, meters) + numbers::cell(meters, d, 0)
+// How many bits there are, with so many links.
+pub fn bit_count(meters: usize, links: u64, d: usize) -> usize {
+    links_end(meters, links) + numbers::cell(meters, d, 0)
 }

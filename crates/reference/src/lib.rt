@@ -51,18 +51,23 @@ fn small(count: usize) -> usize
     if count < 4096 { count } else { 4096 }
 }
 
+// How many bits there are, for a site of so many meters and links, which need not be small.
+pub fn bits_of(meters: usize, links: u64, kind: u64, parameter: usize) -> usize {
+    if is_choice(kind) {
+        return numbers::cell(meters, parameter, 0);
+    }
+    if kind == 3 {
+        layout::bit_count(meters, links, parameter)
+    } else {
+        0
+    }
+}
+
 // How many bits there are.
 pub fn bit_count(weights: &[u16; 2500], meters: usize, kind: u64, parameter: usize) -> usize
     ensures { λ r. ⌜ r ≤ 4096 ⌝ }
 {
-    if is_choice(kind) {
-        return small(numbers::cell(meters, parameter, 0));
-    }
-    if kind == 3 {
-        small(layout::bit_count(weights, meters, parameter))
-    } else {
-        0
-    }
+    small(bits_of(meters, sites::links_before(weights, 64), kind, parameter))
 }
 
 // A.

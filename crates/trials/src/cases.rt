@@ -6,7 +6,7 @@ use crate::counts;
 use crate::lists;
 use crate::rows;
 
-// The refusal of image and kind, or 0. No small site has more than 8192 bits, so 8 never applies.
+// The refusal of image and kind, or 0. No small site has more than 8,192 bits, so 8 never applies; large.rt has those that have.
 fn refusal(valid: bool, allowed: bool) -> u64 {
     if !valid {
         return 1;

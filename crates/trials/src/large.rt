@@ -1,10 +1,14 @@
-// Two large sites, with 4,000 random edits each, whose draws begin with the same seed.
+// Two large sites, with 4,000 random edits each, whose draws begin with the same seed. Every hundred edits the bit counts of all kinds are compared too: no small site has more than 8,192 bits, and large ones have more or less.
+use crate::calls;
 use crate::counts;
 use crate::edits;
 use crate::edits::Edit;
+use crate::matrix;
 
 // How many edits are made of each site.
 const EDITS: usize = 4000;
+
+const MOST_BITS: usize = 8192;
 
 // One of 64 edits begins, with one of the 13 numbers of meters from `least` on, 23 remove and 40 add. The ends are 0 to one above the meters. Weight 0 stands in for every weight that 16 divides.
 fn draw_large(counts: &mut [u64; 66], meters: usize, least: usize) -> Edit {
@@ -24,6 +28,43 @@ fn draw_large(counts: &mut [u64; 66], meters: usize, least: usize) -> Edit {
     }
 }
 
+// The refusal of a kind, or 0.
+fn refusal(allowed: bool, bits: usize) -> u64 {
+    if !allowed {
+        return 7;
+    }
+    if MOST_BITS < bits { 8 } else { 0 }
+}
+
+// The bit count of a kind with its parameter, or its refusal.
+fn compare_count(
+    image: &[u8; 2064],
+    meters: usize,
+    links: u64,
+    kind: u64,
+    parameter: u64,
+    counts: &mut [u64; 66],
+) {
+    let bits = reference::bits_of(meters, links, kind, parameter as usize);
+    let number = refusal(reference::allows(kind, parameter, meters), bits);
+    let answer = plans::bit_count(image, kind, parameter);
+    counts::called(
+        counts,
+        counts::TABLES,
+        number,
+        calls::is_value(answer, number, bits as u64),
+    );
+}
+
+// Those of kinds 0 to 3 with parameters 0 to 63.
+fn compare_counts(image: &[u8; 2064], meters: usize, links: u64, counts: &mut [u64; 66]) {
+    let mut k: u64 = 0;
+    while k < 256 {
+        compare_count(image, meters, links, k / 64, k % 64, counts);
+        k += 1;
+    }
+}
+
 // One site, begun with the meters given and later with `least` or more.
 fn compare_site(start: usize, least: usize, counts: &mut [u64; 66]) {
     let mut image = [0u8; 2064];
@@ -35,6 +76,9 @@ fn compare_site(start: usize, least: usize, counts: &mut [u64; 66]) {
     while k < EDITS {
         let e = draw_large(counts, meters, least);
         meters = edits::edit_both(&mut image, &mut weights, meters, e, counts);
+        if k % 100 == 0 {
+            compare_counts(&image, meters, matrix::count(&weights) as u64, counts);
+        }
         k += 1;
     }
 }

@@ -20,7 +20,7 @@ pub fn store(weights: &mut [u16; 2500], u: usize, v: usize, weight: u16) {
 }
 
 // How many links there are.
-fn count(weights: &[u16; 2500]) -> usize {
+pub fn count(weights: &[u16; 2500]) -> usize {
     let mut n: usize = 0;
     let mut i: usize = 0;
     while i < 2500 {

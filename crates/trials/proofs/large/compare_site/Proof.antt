@@ -24,6 +24,12 @@ draw-large-requires c κs = search needs
 edit-both-requires : tie.Need-edit-both-requires Inv-loop μ-loop
 edit-both-requires c κs = search needs
 
+count-requires : tie.Need-count-requires Inv-loop μ-loop
+count-requires c κs = search needs
+
+compare-counts-requires : tie.Need-compare-counts-requires Inv-loop μ-loop
+compare-counts-requires c κs = search needs
+
 add-k : tie.Need-add-k Inv-loop μ-loop
 add-k c = search needs
 
@@ -47,6 +53,8 @@ compare-site-spec =
     loop-holds
     draw-large-requires
     edit-both-requires
+    count-requires
+    compare-counts-requires
     add-k
     loop-less
     loop-again
