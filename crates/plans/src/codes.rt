@@ -67,7 +67,7 @@ fn checked(
 }
 
 // Refused by 7 or 8 too.
-pub fn encode(
+pub(crate) fn encode(
     us: &[u8],
     vs: &[u8],
     ws: &[u16],

@@ -101,7 +101,7 @@ fn checked(
 }
 
 // Refused by 7 or 8 too.
-pub fn decode(
+pub(crate) fn decode(
     us: &[u8],
     vs: &[u8],
     ws: &[u16],

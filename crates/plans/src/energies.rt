@@ -16,7 +16,7 @@ use crate::problems;
 use crate::problems::Posed;
 
 // Whether each lent byte is 0 or 1: whether the greatest is. The loop goes through all of them, many bytes at a time.
-pub fn are_bits(bits: &[u8]) -> bool
+pub(crate) fn are_bits(bits: &[u8]) -> bool
     ensures { λ r. ⌜ r ≡ areBits (now (bits .entry)) ⌝ }
 {
     let mut top: u8 = 0;
@@ -67,7 +67,7 @@ fn checked(
 }
 
 // Refused by 7 or 8 too.
-pub fn energy(
+pub(crate) fn energy(
     us: &[u8],
     vs: &[u8],
     ws: &[u16],

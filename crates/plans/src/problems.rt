@@ -88,7 +88,7 @@ fn penalty_of(kind: Kind, us: &[u8], vs: &[u8], ws: &[u16], meters: usize) -> u6
 }
 
 // The constant of the table, whatever the links are.
-pub fn constant_of(problem: Problem) -> i64
+pub(crate) fn constant_of(problem: Problem) -> i64
     requires { ⌜ Weighed (problem .meters) (problem .penalty) (problem .kind) ⌝ }
     ensures { λ r. ⌜ ((ls : List Link) → r ≡ constantOf (formulaBy (problem .penalty) (problem .meters) ls (problem .kind))) ⌝ }
 {
@@ -103,7 +103,14 @@ pub fn constant_of(problem: Problem) -> i64
 }
 
 // Refused by 7 or 8, or the problem.
-pub fn pose(us: &[u8], vs: &[u8], ws: &[u16], meters: usize, kind: u64, parameter: u64) -> Posed
+pub(crate) fn pose(
+    us: &[u8],
+    vs: &[u8],
+    ws: &[u16],
+    meters: usize,
+    kind: u64,
+    parameter: u64,
+) -> Posed
     requires { ⌜ Arrays meters (now us) (now vs) (now ws) ⌝ }
     ensures { λ r. ⌜ r ≡ posedBy (refusal (kindTests meters (length (linksOf (now (us .entry)) (now (vs .entry)) (now (ws .entry)))) kind parameter)) meters (linksOf (now (us .entry)) (now (vs .entry)) (now (ws .entry))) kind parameter ⌝ }
 {

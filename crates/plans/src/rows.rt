@@ -23,7 +23,7 @@ pub struct Filled {
 }
 
 // The refusal by 10 or 9 of row i in a slice with that much room; 10 comes first.
-pub fn refusal_of(bits: usize, i: u64, room: usize) -> u64
+pub(crate) fn refusal_of(bits: usize, i: u64, room: usize) -> u64
     ensures { λ r. ⌜ r ≡ refusal (rowTests bits i room) ⌝ }
 {
     if (bits as u64) <= i {
@@ -80,7 +80,7 @@ fn checked(
 }
 
 // Refused by 7 or 8 too.
-pub fn fill_row(
+pub(crate) fn fill_row(
     us: &[u8],
     vs: &[u8],
     ws: &[u16],
