@@ -3,6 +3,7 @@ ghost use mathlib.Core.Path.{_≡_};
 ghost use Prim.Native.Nat.{_+_, _≤_, _<_};
 ghost use lib.ListN.{length};
 ghost use lib.IntN.{natAbs};
+use crate::output;
 use libc::STDOUT_FILENO;
 
 // From here on a line may not fit: it has three numbers of at most 21 bytes, two spaces and its end.
@@ -67,28 +68,37 @@ pub fn put_entry(out: &mut [u8; 65536], at: usize, i: u64, j: u64, z: i64) -> us
     put(out, last, b"\n")
 }
 
-// Writes the first `at` bytes.
-fn write_front(s: &[u8], at: usize)
-    requires { ⌜ at ≤ length (now s) ⌝ }
-{
-    io::write_all(STDOUT_FILENO, &s[..at]);
+// How many bytes the buffer holds, and whether a write has failed: then nothing more is to be written.
+pub struct Buffered {
+    pub at: usize,
+    pub failed: bool,
 }
 
-// Writes what is in the buffer.
-pub fn flush(out: &[u8; 65536], at: usize)
+// Writes the first `at` bytes. Gives whether all of them were written.
+fn write_front(s: &[u8], at: usize) -> bool
+    requires { ⌜ at ≤ length (now s) ⌝ }
+{
+    output::write_all(STDOUT_FILENO, &s[..at])
+}
+
+// Writes what is in the buffer. Gives whether all of it was written.
+pub fn flush(out: &[u8; 65536], at: usize) -> bool
     requires { ⌜ at ≤ 65536 ⌝ }
 {
-    write_front(out, at);
+    write_front(out, at)
 }
 
 // Makes room for a line.
-pub fn room(out: &[u8; 65536], at: usize) -> usize
+pub fn room(out: &[u8; 65536], at: usize) -> Buffered
     requires { ⌜ at ≤ 65536 ⌝ }
-    ensures { λ r. ⌜ r + 66 ≤ 65536 ⌝ }
+    ensures { λ r. ⌜ r .at + 66 ≤ 65536 ⌝ }
 {
     if at <= NEARLY_FULL {
-        return at;
+        return Buffered { at, failed: false };
     }
-    flush(out, at);
-    0
+    let written = flush(out, at);
+    Buffered {
+        at: 0,
+        failed: !written,
+    }
 }

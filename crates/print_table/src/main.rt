@@ -1,10 +1,16 @@
 // Prints the table of an image and a kind with its parameter: 2,066 bytes on standard input, the image and then the two numbers of a byte each. A line `Q bits constant`, then a line `i j value` for each
 // number that is not 0, i rising, then j rising, with `i i` for a single bit; or one line, `refused` and the number.
+// What the numbers mean: E = constant + the value of each bit that is set + the value of each pair i < j whose bits are both set, once.
+// A table is whole or said not to be: the first write that fails is the last, and standard error then has a line about it.
 mod lines;
+mod output;
 
 ghost use Prim.Native.Nat.{_+_, _≤_, _<_};
 ghost use lib.ListN.{length};
+use crate::lines::Buffered;
+use libc::STDERR_FILENO;
 use libc::STDIN_FILENO;
+use libc::STDOUT_FILENO;
 use plans::Number;
 
 // Image, kind and parameter.
@@ -14,13 +20,13 @@ const KIND_AT: usize = 2064;
 
 const PARAMETER_AT: usize = 2065;
 
-// The line of a refusal.
-fn print_refusal(number: u64) {
+// The line of a refusal. Gives, as all below, whether everything was written.
+fn print_refusal(number: u64) -> bool {
     let mut out = io::large_buffer();
     let named = lines::put(&mut out, 0, b"refused ");
     let at = lines::put_number(&mut out, named, number);
     let end = lines::put(&mut out, at, b"\n");
-    lines::flush(&out, end);
+    lines::flush(&out, end)
 }
 
 // The line `Q bits constant`.
@@ -34,22 +40,25 @@ fn put_head(out: &mut [u8; 65536], bits: i64, constant: i64) -> usize
     lines::put(out, last, b"\n")
 }
 
-// The lines of row i. Number k of it stands at the pair (i, i + k), the first at bit i alone.
-fn put_row(out: &mut [u8; 65536], start: usize, i: u64, row: &[i64]) -> usize
+// The lines of row i, up to the first write that fails. Number k of it stands at the pair (i, i + k), the first at bit i alone.
+fn put_row(out: &mut [u8; 65536], start: usize, i: u64, row: &[i64]) -> Buffered
     requires { ⌜ (start ≤ 65536) × (i + length (now row) ≤ 16384) ⌝ }
-    ensures { λ r. ⌜ r ≤ 65536 ⌝ }
+    ensures { λ r. ⌜ r .at ≤ 65536 ⌝ }
 {
     let mut at = start;
     let mut k = 0;
     while k < row.len() {
         let z = row[k];
         if z != 0 {
-            at = lines::room(out, at);
-            at = lines::put_entry(out, at, i, i + (k as u64), z);
+            let place = lines::room(out, at);
+            if place.failed {
+                return place;
+            }
+            at = lines::put_entry(out, place.at, i, i + (k as u64), z);
         }
         k += 1;
     }
-    at
+    Buffered { at, failed: false }
 }
 
 // Row i, filled in the lent places and printed at once: the whole table is never held.
@@ -61,9 +70,9 @@ fn show_row(
     parameter: u64,
     i: u64,
     places: &mut [i64],
-) -> usize
+) -> Buffered
     requires { ⌜ (start ≤ 65536) × (i < 8192) ⌝ }
-    ensures { λ r. ⌜ r ≤ 65536 ⌝ }
+    ensures { λ r. ⌜ r .at ≤ 65536 ⌝ }
 {
     let row = plans::row(image, kind, parameter, i, places);
     put_row(out, start, i, &row[..])
@@ -78,9 +87,9 @@ fn show_row_in(
     parameter: u64,
     i: u64,
     places: &mut [i64; 8192],
-) -> usize
+) -> Buffered
     requires { ⌜ (start ≤ 65536) × (i < 8192) ⌝ }
-    ensures { λ r. ⌜ r ≤ 65536 ⌝ }
+    ensures { λ r. ⌜ r .at ≤ 65536 ⌝ }
 {
     show_row(out, start, image, kind, parameter, i, places)
 }
@@ -94,21 +103,25 @@ fn row_count(bits: i64) -> u64
 }
 
 // The table, row by row.
-fn show_table(image: &[u8], kind: u64, parameter: u64, bits: i64, constant: i64) {
+fn show_table(image: &[u8], kind: u64, parameter: u64, bits: i64, constant: i64) -> bool {
     let mut out = io::large_buffer();
     let mut places = [0i64; 8192];
     let mut at = put_head(&mut out, bits, constant);
     let rows = row_count(bits);
     let mut i: u64 = 0;
     while i < rows {
-        at = show_row_in(&mut out, at, image, kind, parameter, i, &mut places);
+        let place = show_row_in(&mut out, at, image, kind, parameter, i, &mut places);
+        if place.failed {
+            return false;
+        }
+        at = place.at;
         i += 1;
     }
-    lines::flush(&out, at);
+    lines::flush(&out, at)
 }
 
 // The constant is refused where the bit count is, and nowhere else.
-fn show_bits(image: &[u8], kind: u64, parameter: u64, bits: i64) {
+fn show_bits(image: &[u8], kind: u64, parameter: u64, bits: i64) -> bool {
     let constant = plans::constant(image, kind, parameter);
     match constant {
         Number::Refused(number) => print_refusal(number),
@@ -117,7 +130,7 @@ fn show_bits(image: &[u8], kind: u64, parameter: u64, bits: i64) {
 }
 
 // The table or the refusal.
-fn show(image: &[u8], kind: u64, parameter: u64) {
+fn show(image: &[u8], kind: u64, parameter: u64) -> bool {
     let bits = plans::bit_count(image, kind, parameter);
     match bits {
         Number::Refused(number) => print_refusal(number),
@@ -126,10 +139,10 @@ fn show(image: &[u8], kind: u64, parameter: u64) {
 }
 
 // The image stands in front.
-fn show_front(input: &[u8], kind: u64, parameter: u64)
+fn show_front(input: &[u8], kind: u64, parameter: u64) -> bool
     requires { ⌜ 2064 ≤ length (now input) ⌝ }
 {
-    show(&input[..KIND_AT], kind, parameter);
+    show(&input[..KIND_AT], kind, parameter)
 }
 
 // A byte, as the calls take numbers.
@@ -137,15 +150,32 @@ fn wide(x: u8) -> u64 {
     x as u64
 }
 
-// One place more than the input has, so that a longer one is seen.
-fn main() {
+// The answer to standard input, which has one place more than it needs, so that a longer one is seen.
+fn answer() -> bool {
     let mut input = [0u8; 2067];
     let n = io::read_full(STDIN_FILENO, &mut input);
     if n != INPUT {
-        print_refusal(1);
-        return;
+        return print_refusal(1);
     }
     let kind = wide(input[KIND_AT]);
     let parameter = wide(input[PARAMETER_AT]);
-    show_front(&input, kind, parameter);
+    show_front(&input, kind, parameter)
+}
+
+// The same, with standard output closed: some file systems tell only then that what they took is lost.
+fn answer_and_close() -> bool {
+    if !answer() {
+        return false;
+    }
+    libc::close(STDOUT_FILENO) == 0
+}
+
+// A program has no exit status of its own in Rattle, so that standard error has to tell a table that is not whole.
+fn main() {
+    if !answer_and_close() {
+        output::write_all(
+            STDERR_FILENO,
+            b"print_table: output failed: incomplete table\n",
+        );
+    }
 }
