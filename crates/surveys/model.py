@@ -370,7 +370,7 @@ def fill(p, i, room):
     if not number:
         numbers = p.table()[1]
         places[:length] = [numbers.get((i, j), 0) for j in range(i, p.bits)]
-    return ' '.join(map(str, [number, length, number] + places[:12]))
+    return ' '.join(map(str, [number, length, number, 0] + places[:12]))
 
 
 def decode(p, x, room):

@@ -1,4 +1,5 @@
 // The public calls: the image of a site, a kind's number and its parameter in; table, energies, codes and plans out. None asks anything of its caller: each gives its result, or the number of the first refusal that applies and then alters nothing lent to it.
+// The contracts state all of that but for one thing: what `row` leaves in the slice that it is lent, outside the part that it returns. No contract can speak of that; `trials` and `surveys` compare it.
 // What each call gives is defined in specs/Calls.antt; the three demands are stated in proofs/Demands.antt.
 mod codes;
 mod decoding;
@@ -157,10 +158,12 @@ fn fill(image: &[u8], kind: u64, parameter: u64, i: u64, out: &mut [i64]) -> Fil
     )
 }
 
-// Row i of the table as the front part of the lent slice, empty only on refusal; `row_refusal` gives the refusal's number.
+// Row i of the table as the front part of the lent slice, empty only on refusal; `row_refusal` gives the refusal's number. A slice of which a part is returned is spent: the contract has the part and where it begins, and cannot
+// have the rest. So there is nothing here but `fill`, which states the whole slice, and the part.
 pub fn row<'a>(image: &[u8], kind: u64, parameter: u64, i: u64, out: &'a mut [i64]) -> &'a mut [i64]
     ensures lent { λ _. ⌜ now (image .exit) ≡ now (image .entry) ⌝ }
     ensures part { λ r. ⌜ now r ≡ rowPartIn (now (image .entry)) kind parameter i (length (now (out .entry))) ⌝ }
+    ensures place { λ r. ⌜ r .ptr ≡ out .entry .ptr ⌝ }
 {
     let filled = fill(image, kind, parameter, i, &mut out[..]);
     &mut out[..filled.len]

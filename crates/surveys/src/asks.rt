@@ -31,19 +31,41 @@ fn row_length(image: &[u8], n: &[u64; 8], places: &mut [i64]) -> u64 {
     row.len() as u64
 }
 
-// The number of a row that is not filled, the length of the part that comes back, the number of the call that fills it, and the places then.
-fn row_in(image: &[u8], n: &[u64; 8], places: &mut [i64]) {
+// 1 where two numbers differ.
+fn differ(a: i64, b: i64) -> usize
+    ensures { λ r. ⌜ r ≤ 1 ⌝ }
+{
+    if a == b { 0 } else { 1 }
+}
+
+// In how many places two slices differ, as far as both go.
+fn differing(places: &[i64], others: &[i64]) -> usize {
+    let n = bytes::within(places.len(), others.len());
+    let mut count: usize = 0;
+    let mut k = 0;
+    while k < n {
+        count += differ(places[k], others[k]);
+        k += 1;
+    }
+    count
+}
+
+// The number with which the row is refused, and the length of the part that comes back; the number of the call that fills other places, in how many places what the two calls leave differs, and what
+// the first one leaves.
+fn row_in(image: &[u8], n: &[u64; 8], places: &mut [i64], others: &mut [i64]) {
     lines::named(b": ", plans::row_refusal(image, n[1], n[2], n[3], places));
     lines::named(b" ", row_length(image, n, places));
-    lines::named(b" ", plans::fill_row(image, n[1], n[2], n[3], places));
+    lines::named(b" ", plans::fill_row(image, n[1], n[2], n[3], others));
+    lines::named(b" ", differing(places, others) as u64);
     print_front(places);
 }
 
 // `fill K P I COUNT`: row I, in so many places.
 pub fn show_row(image: &[u8], n: &[u64; 8]) {
     let mut places = [77i64; 8192];
+    let mut others = [77i64; 8192];
     let count = bytes::within(n[4] as usize, 8192);
-    row_in(image, n, &mut places[..count]);
+    row_in(image, n, &mut places[..count], &mut others[..count]);
 }
 
 // The energy, then the weight and how many meters were repaired, and the plan.

@@ -14,7 +14,7 @@ row-requires c κs = search needs
 
 -- src/main.rt:69:5
 put-row-requires : tie.Need-put-row-requires
-put-row-requires c κs = omega (arith, few-numbers _ _ _ _ _ _ (c .before .before .row .ensures .1))
+put-row-requires c κs = omega (arith, few-numbers _ _ _ _ _ _ (c .before .before .row .ensures .1 .0))
 
 -- src/main.rt:56:1
 same-length : tie.Need-same-length

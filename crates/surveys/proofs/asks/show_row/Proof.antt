@@ -17,6 +17,12 @@ array-borrow-prefix-places c = search needs
 slice-aggregate-row-in : tie.Need-slice-aggregate-row-in
 slice-aggregate-row-in c = sym (length-take-le _ _ (omega arith))
 
+array-borrow-prefix-others : tie.Need-array-borrow-prefix-others
+array-borrow-prefix-others c = search needs
+
+slice-aggregate-row-in-2 : tie.Need-slice-aggregate-row-in-2
+slice-aggregate-row-in-2 c = sym (length-take-le _ _ (omega arith))
+
 row-in-requires : tie.Need-row-in-requires
 row-in-requires c κs = search needs
 
@@ -31,5 +37,7 @@ show-row-spec =
     within-requires
     array-borrow-prefix-places
     slice-aggregate-row-in
+    array-borrow-prefix-others
+    slice-aggregate-row-in-2
     row-in-requires
     returns)
