@@ -7,18 +7,17 @@ use native.Mathlib.Numerals.{add-one}
 use native.Mathlib.Omega.{arith}
 use native.Mathlib.Decide.{ℕ-discrete}
 use lib.Dec.{T, leb, leb→le}
-use lib.ListN.{length, getD, set, drop}
-use lib.Seq.{getD-set-same, getD-set-other, drop-cons, drop-length}
-use lib.IntN.{ℤ, pos, negℤ, natAbs, _+ℤ_, _-ℤ_, _*ℤ_, +ℤ-idl, +ℤ-idr, +ℤ-assoc, zero-*ℤ}
+use lib.ListN.{length, getD, set}
+use lib.Seq.{getD-set-same, getD-set-other}
+use lib.IntN.{ℤ, pos, negℤ, natAbs, _-ℤ_, _*ℤ_, +ℤ-idl}
 use mir.Syntax.{w64}
 use mir.Val.{SFits}
 use Rattle.qubo.specs.Formula.{Term, Formula}
-use Rattle.qubo.specs.Table.{dot, rowEnergy, absSum}
 use Rattle.qubo.specs.Norm.{termNorm}
 use Rattle.qubo.specs.Terms.{bit, bits, single, pair, unequal, times}
 use Rattle.qubo.specs.Rows.{zeros, addTerms, runSum, runBit, runOneHot, runDifference, IsNumber, later, Room}
 use Rattle.qubo.specs.declared.Run.{Run}
-use Rattle.qubo.proofs.Ints.{natAbs-+ℤ, natAbs-*ℤ, natAbs-negℤ, one-*ℤ}
+use Rattle.qubo.proofs.Ints.{natAbs-*ℤ, natAbs-negℤ}
 use Rattle.qubo.proofs.Order.{mag-natAbs}
 use Rattle.qubo.proofs.RowAction.{added-abs, room-front, room-back}
 use Rattle.qubo.proofs.RowTerms.{product-split, single-norm, times-norm}
@@ -153,35 +152,3 @@ module _ (v : ℤ) (p q : ℕ) (r : List ℤ) (h : Room (2 ^ 61) (unequal v p q 
 
   pub unequal-pair : (s : ℤ) (i j : ℕ) → natAbs s ≤ 2 * natAbs v → Room (2 ^ 61) (pair s i j ∷ []) (addTerms (single v i ∷ []) i r)
   unequal-pair s i j g = record { room = λ k. omega (arith, h .room k, unequal-norm v p q, added-abs (single v i ∷ []) i r k, single-norm v i, times-norm s i ((j, pos 1) ∷ [])) }
-
--- ---- dot_of: what is left of the sum
-pub dot-next : (r : List ℤ) (x : List ℕ) (s : ℤ) (k : ℕ) → k < length r → k < length x → s +ℤ pos (getD x k 0) *ℤ getD r k (pos 0) +ℤ dot (drop (k + 1) r) (drop (k + 1) x) ≡ s +ℤ dot (drop k r) (drop k x)
-dot-next r x s k l m =
-    rw (add-one k) (sym (ap₂ (λ (a : List ℤ) (b : List ℕ). s +ℤ dot a b) (drop-cons r k (pos 0) l) (drop-cons x k 0 m)
-    ∙ sym (+ℤ-assoc s (pos (getD x k 0) *ℤ getD r k (pos 0)) (dot (drop (suc k) r) (drop (suc k) x)))))
-
-pub abs-next : (r : List ℤ) (k : ℕ) → k < length r → absSum (drop k r) ≡ natAbs (getD r k (pos 0)) + absSum (drop (k + 1) r)
-abs-next r k l = rw (add-one k) (ap absSum (drop-cons r k (pos 0) l))
-
-pub dot-end : (r : List ℤ) (x : List ℕ) (s : ℤ) (k : ℕ) → k ≡ length r → s +ℤ dot (drop k r) (drop k x) ≡ s
-dot-end r x s k e = ap (λ (a : List ℤ). s +ℤ dot a (drop k x)) (ap (λ (m : ℕ). drop m r) e ∙ drop-length r) ∙ +ℤ-idr s
-
-pub with-bit-abs : (s q : ℤ) (b : ℕ) → b ≤ 1 → natAbs (s +ℤ pos b *ℤ q) ≤ natAbs s + natAbs q
-with-bit-abs s q b h = omega (arith, natAbs-+ℤ s (pos b *ℤ q), natAbs-*ℤ (pos b) q, mul-le-mul-right (natAbs q) h)
-
--- ---- row_energy: a row whose bit is not set gives nothing, one whose bit is set gives its whole sum
-pub no-row : (r : List ℤ) (x : List ℕ) → length r ≡ 0 → rowEnergy r x ≡ pos 0
-no-row [] x e = refl
-no-row (q ∷ r) x e = absurd (omega arith)
-
-pub unset-row : (r : List ℤ) (x : List ℕ) → getD x 0 0 ≡ 0 → rowEnergy r x ≡ pos 0
-unset-row [] x e = refl
-unset-row (q ∷ r) [] e = refl
-unset-row (q ∷ r) (b ∷ x) e = ap (λ (c : ℕ). pos c *ℤ (q +ℤ dot r x)) e ∙ zero-*ℤ (q +ℤ dot r x)
-
-pub set-row : (r : List ℤ) (x : List ℕ) → getD x 0 0 ≡ 1 → rowEnergy r x ≡ dot r x
-set-row [] x e = refl
-set-row (q ∷ r) [] e = refl
-set-row (q ∷ r) (b ∷ x) e =
-    ap (λ (c : ℕ). pos c *ℤ (q +ℤ dot r x)) e ∙ one-*ℤ (q +ℤ dot r x)
-    ∙ sym (ap (λ (c : ℕ). pos c *ℤ q +ℤ dot r x) e ∙ ap (λ z. z +ℤ dot r x) (one-*ℤ q))

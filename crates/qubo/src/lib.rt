@@ -1,4 +1,4 @@
-// Table arithmetic: the rows of a table are filled term by term, and give their part of the energy.
+// Table arithmetic: the rows of a table are filled term by term.
 // A row is lent as a slice: its first number is that of bit i, the next ones are those of the pairs (i, i + 1), (i, i + 2), ..
 // Each adder leaves "row i with that term added" and does nothing, in constant time, where bit i does not occur in the term.
 // `Room` says that no sum overflows: it follows from the norm of the formula whose terms are added.
@@ -6,9 +6,8 @@ ghost use mathlib.Core.List.{[], _∷_};
 ghost use mathlib.Core.Path.{_≡_};
 ghost use Prim.Native.Nat.{_+_, _<_, _≤_, _^_};
 ghost use lib.ListN.{length, getD};
-ghost use lib.IntN.{pos, natAbs, _+ℤ_, _*ℤ_};
-ghost use Rattle.qubo.specs.Formula.{Bits};
-ghost use Rattle.qubo.specs.Table.{only, coef, dot, rowEnergy, absSum};
+ghost use lib.IntN.{pos, natAbs};
+ghost use Rattle.qubo.specs.Table.{only, coef};
 ghost use Rattle.qubo.specs.Terms.{single, pair, unequal, times};
 ghost use Rattle.qubo.specs.Rows.{zeros, plus, addTerms, runSum, runOneHot, runDifference, RunBelow, IsNumber, later, Room};
 
@@ -197,43 +196,4 @@ pub fn add_squared_difference(row: &mut [i64], i: usize, left: Run, right: Run, 
     } else if t < rights {
         add_own_difference(row, i, right, t, left, a);
     }
-}
-
-// A sum with the number of a bit, where the bit is set.
-fn with_bit(sum: i64, q: i64, b: u8) -> i64
-    requires { ⌜ (b ≤ 1) × (natAbs sum + natAbs q < 2 ^ 63) ⌝ }
-    ensures { λ r. ⌜ r ≡ sum +ℤ pos b *ℤ q ⌝ }
-{
-    if b == 0 {
-        return sum;
-    }
-    sum + q
-}
-
-// The sum of the numbers whose bits are set.
-fn dot_of(row: &[i64], bits: &[u8]) -> i64
-    requires { ⌜ (length (now row) ≤ length (now bits)) × (absSum (now row) < 2 ^ 63) × Bits (now bits) ⌝ }
-    ensures { λ r. ⌜ r ≡ dot (now (row .entry)) (now (bits .entry)) ⌝ }
-{
-    let mut sum: i64 = 0;
-    let mut j = 0;
-    while j < row.len() {
-        sum = with_bit(sum, row[j], bits[j]);
-        j += 1;
-    }
-    sum
-}
-
-// What row i gives to the energy of an assignment, whose bits are lent from bit i on.
-pub fn row_energy(row: &[i64], bits: &[u8]) -> i64
-    requires { ⌜ (length (now row) ≤ length (now bits)) × (absSum (now row) < 2 ^ 63) × Bits (now bits) ⌝ }
-    ensures { λ r. ⌜ r ≡ rowEnergy (now (row .entry)) (now (bits .entry)) ⌝ }
-{
-    if row.len() == 0 {
-        return 0;
-    }
-    if bits[0] == 0 {
-        return 0;
-    }
-    dot_of(row, bits)
 }
