@@ -8,6 +8,10 @@
  * elements (not null, even where the length is 0), and what a call may alter must not overlap anything else lent to it.
  * Nothing is kept between calls, and nothing is allocated.
  *
+ * What a table's numbers mean: the energy of an assignment is the constant, plus the number of each bit that is set, plus
+ * the number of each pair i < j whose bits are both set, once. (A symmetric matrix has half of a pair's number in each of
+ * its two places.)
+ *
  * Of several refusals the lowest number is given, except that 10 comes before 9:
  *
  *  1 image    not 2,064 bytes, or breaks a rule of images (mp_begin: length only)
