@@ -150,7 +150,7 @@ fn wide(x: u8) -> u64 {
     x as u64
 }
 
-// The answer to standard input, which has one place more than it needs, so that a longer one is seen.
+// The answer to what stands on standard input. One place more than that has, so that a longer one is seen.
 fn answer() -> bool {
     let mut input = [0u8; 2067];
     let n = io::read_full(STDIN_FILENO, &mut input);

@@ -4,10 +4,10 @@ ghost use lib.ListN.{length};
 use libc::EAGAIN;
 use libc::EINTR;
 
-// How often a write is tried again that took nothing and may succeed later, a millisecond after each: about ten seconds in which nothing moves.
+// So often a write that took nothing and may succeed later is tried again, a millisecond after the last time: about ten seconds in which nothing moves.
 const TRIES: usize = 10000;
 
-// Whether a failed write may succeed later: a signal came before it, or its reader is slow and it does not wait (a non-blocking pipe).
+// Whether a failed write may succeed later: a signal came first, or a pipe that does not wait for its reader is full.
 fn may_pass(error: i32) -> bool {
     if error == EINTR {
         return true;
