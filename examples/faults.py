@@ -1,10 +1,11 @@
 #!/usr/bin/env python3
 """Runs the printing program against outputs that fail: what arrives is the whole table, with nothing on standard error, or a front part of it, with the message there.
 
-    examples/faults.py target/bin/print_table target/examples/faulty.so
+    examples/faults.py target/bin/print_table target/libmeterplan.so target/examples/faulty.so
 
-Prints a line for each output, and stops with status 1 at the first at which something else is found.
+The whole table is that of the C interface, row by row. Prints a line for each output, and stops with status 1 at the first at which something else is found.
 """
+import ctypes
 import os
 import resource
 import signal
@@ -13,7 +14,7 @@ import sys
 import tempfile
 import time
 
-PROGRAM, FAULTY = sys.argv[1:]
+PROGRAM, LIBRARY, FAULTY = sys.argv[1:]
 MESSAGE = b"print_table: output failed: incomplete table\n"
 PIPE = 65536
 
@@ -111,15 +112,29 @@ def to_nothing():
     return b"", *end(start(None))
 
 
-def no_fault():
-    """The table that all others are compared with: its head, then lines that rise, up to one of the last bit."""
-    table, said, status = to_pipe()
-    lines = table.split(b"\n")
-    places = [tuple(int(n) for n in line.split()[:2]) for line in lines[1:-1]]
-    rising = all(a < b for a, b in zip(places, places[1:]))
-    if (said, status) != (b"", 0) or not lines[0].startswith(b"Q 8160 ") or places[-1][1] != 8159 or lines[-1] or not rising:
-        sys.exit(f"no fault: {lines[0]} .. {lines[-2:]}, status {status}, said {said}")
-    return table
+class Number(ctypes.Structure):
+    _fields_ = [("refusal", ctypes.c_uint64), ("value", ctypes.c_int64)]
+
+
+def ask(name, *more, gives=Number):
+    """A call of the C interface with the image, kind and parameter of the input."""
+    function = ctypes.CDLL(LIBRARY)[name]
+    function.restype = gives
+    answer = function(INPUT[:2064], ctypes.c_size_t(2064), ctypes.c_uint64(INPUT[2064]), ctypes.c_uint64(INPUT[2065]), *more)
+    if getattr(answer, "refusal", answer) != 0:
+        sys.exit(f"{name} refused: {answer}")
+    return answer
+
+
+def whole_table():
+    """The lines that the program is to print, with the numbers of the C interface."""
+    bits = ask("mp_bits").value
+    row = (ctypes.c_int64 * bits)()
+    lines = [f"Q {bits} {ask('mp_constant').value}"]
+    for i in range(bits):
+        ask("mp_row", ctypes.c_uint64(i), row, ctypes.c_size_t(bits), gives=ctypes.c_uint64)
+        lines += [f"{i} {i + k} {z}" for k, z in enumerate(row[:bits - i]) if z]
+    return "\n".join(lines).encode() + b"\n"
 
 
 def finding(table, arrived, said, status):
@@ -130,12 +145,13 @@ def finding(table, arrived, said, status):
         return f"a hole, status {status}, said {said}"
     if (said, status) == (MESSAGE, 0):
         return "message"
-    return f"incomplete, said {said}" if status == 0 else signal.Signals(-status).name
+    return signal.Signals(-status).name if status < 0 else f"incomplete, status {status}, said {said}"
 
 
 def main():
-    table = no_fault()
+    table = whole_table()
     cases = [
+        ("pipe", "whole", to_pipe),
         ("full device", "message", lambda: to_device("/dev/full")),
         ("closed", "message", to_nothing),
         ("pipe closed by its reader, SIGPIPE ignored", "message", lambda: to_closed_pipe(signal.SIGPIPE)),
