@@ -1,10 +1,11 @@
 #!/usr/bin/env python3
-"""Runs the printing program against outputs that fail: what arrives is the whole table, with nothing on standard error, or a front part of it, with the message there.
+"""Runs the printing program against outputs and inputs that fail: what arrives is the whole table, with nothing on standard error, or a front part of it, with the message there.
 
     examples/faults.py target/bin/print_table target/libmeterplan.so target/examples/faulty.so
 
-The whole table is that of the C interface, row by row. Prints a line for each output, and stops with status 1 at the first at which something else is found.
+The whole table is that of the C interface, row by row. Prints a line for each case, and stops with status 1 at the first in which something else is found.
 """
+import contextlib
 import ctypes
 import os
 import resource
@@ -15,7 +16,8 @@ import tempfile
 import time
 
 PROGRAM, LIBRARY, FAULTY = sys.argv[1:]
-MESSAGE = b"print_table: output failed: incomplete table\n"
+INCOMPLETE = b"print_table: output failed: incomplete table\n"
+NO_INPUT = b"print_table: input failed: no table\n"
 PIPE = 65536
 
 
@@ -33,19 +35,20 @@ def large_input():
 INPUT = large_input()
 
 
-def start(out, ignored=None, most=None, **settings):
-    """The program, with a signal ignored, a limit on the size of files, or settings of the environment; None is no output at all."""
+def start(out, source=subprocess.PIPE, closed=None, ignored=None, most=None, **settings):
+    """The program: with another input than the large one, with a descriptor closed, a signal ignored, a limit on the size of files, or settings of the environment."""
     def prepare():
         if ignored is not None:
             signal.signal(ignored, signal.SIG_IGN)
         if most is not None:
             resource.setrlimit(resource.RLIMIT_FSIZE, (most, most))
-        if out is None:
-            os.close(1)
+        if closed is not None:
+            os.close(closed)
 
-    child = subprocess.Popen([PROGRAM], stdin=subprocess.PIPE, stdout=out, stderr=subprocess.PIPE, env=settings, preexec_fn=prepare)
-    child.stdin.write(INPUT)
-    child.stdin.close()
+    child = subprocess.Popen([PROGRAM], stdin=source, stdout=out, stderr=subprocess.PIPE, env=settings, preexec_fn=prepare)
+    if source == subprocess.PIPE and closed != 0:
+        child.stdin.write(INPUT)
+        child.stdin.close()
     return child
 
 
@@ -60,7 +63,7 @@ def start_to_pipe(blocking=True, ignored=None):
     """The program with a pipe for output, and the end to read."""
     front, back = os.pipe()
     os.set_blocking(back, blocking)
-    child = start(back, ignored)
+    child = start(back, ignored=ignored)
     os.close(back)
     return front, child
 
@@ -96,11 +99,13 @@ def to_stopped_reader():
     return read_all(front), *ended
 
 
-def to_file(most=None, ignored=None, **settings):
+def to_file(feed=None, **how):
+    """With a file for output; `feed` acts as the other end of the input."""
     with tempfile.TemporaryFile() as out:
-        ended = end(start(out, ignored, most, **settings))
+        child = start(out, **how)
+        said, status = feed(child) if feed else end(child)
         out.seek(0)
-        return out.read(), *ended
+        return out.read(), said, status
 
 
 def to_device(path):
@@ -108,8 +113,32 @@ def to_device(path):
         return b"", *end(start(out))
 
 
-def to_nothing():
-    return b"", *end(start(None))
+def from_pipe(*parts):
+    """With a non-blocking pipe for input, into which the parts go one after another; where the last is None, it stays open."""
+    front, back = os.pipe()
+    os.set_blocking(front, False)
+
+    def feed(child):
+        os.close(front)
+        for part in parts:
+            if part is None:
+                ended = end(child)
+                os.close(back)
+                return ended
+            time.sleep(0.5)
+            with contextlib.suppress(BrokenPipeError):
+                os.write(back, part)
+        os.close(back)
+        return end(child)
+
+    return to_file(feed, source=front)
+
+
+def from_directory():
+    directory = os.open(".", os.O_RDONLY)
+    found = to_file(source=directory)
+    os.close(directory)
+    return found
 
 
 class Number(ctypes.Structure):
@@ -138,37 +167,43 @@ def whole_table():
 
 
 def finding(table, arrived, said, status):
-    """What the outcome of a run is: 'whole', 'message', the signal by which the system ended the program, or what is wrong."""
+    """What the outcome of a run is: 'whole', 'message', 'no input', the signal by which the system ended the program, or what is wrong."""
     if arrived == table and (said, status) == (b"", 0):
         return "whole"
     if not table.startswith(arrived):
-        return f"a hole, status {status}, said {said}"
-    if (said, status) == (MESSAGE, 0):
+        return f"something else, status {status}, said {said}"
+    if (said, status) == (INCOMPLETE, 0):
         return "message"
+    if (arrived, said, status) == (b"", NO_INPUT, 0):
+        return "no input"
     return signal.Signals(-status).name if status < 0 else f"incomplete, status {status}, said {said}"
 
 
 def main():
     table = whole_table()
     cases = [
-        ("pipe", "whole", to_pipe),
-        ("full device", "message", lambda: to_device("/dev/full")),
-        ("closed", "message", to_nothing),
-        ("pipe closed by its reader, SIGPIPE ignored", "message", lambda: to_closed_pipe(signal.SIGPIPE)),
-        ("pipe closed by its reader", "SIGPIPE", to_closed_pipe),
-        ("limit on the size of files, SIGXFSZ ignored", "message", lambda: to_file(1000001, signal.SIGXFSZ)),
-        ("limit on the size of files", "SIGXFSZ", lambda: to_file(1000001)),
-        ("slow reader of a non-blocking pipe", "whole", lambda: to_pipe(blocking=False, pause=0.002)),
-        ("reader of a non-blocking pipe that stops", "message", to_stopped_reader),
-        ("interrupted and partial writes", "whole", lambda: to_file(LD_PRELOAD=FAULTY)),
-        ("failure told when it is closed", "message", lambda: to_file(LD_PRELOAD=FAULTY, FAULTY_CLOSE="1")),
+        ("to a pipe", "whole", to_pipe),
+        ("to a full device", "message", lambda: to_device("/dev/full")),
+        ("to a closed output", "message", lambda: to_file(closed=1)),
+        ("to a pipe closed by its reader, SIGPIPE ignored", "message", lambda: to_closed_pipe(signal.SIGPIPE)),
+        ("to a pipe closed by its reader", "SIGPIPE", to_closed_pipe),
+        ("to a file of limited size, SIGXFSZ ignored", "message", lambda: to_file(most=1000001, ignored=signal.SIGXFSZ)),
+        ("to a file of limited size", "SIGXFSZ", lambda: to_file(most=1000001)),
+        ("to a non-blocking pipe with a slow reader", "whole", lambda: to_pipe(blocking=False, pause=0.002)),
+        ("to a non-blocking pipe whose reader stops", "message", to_stopped_reader),
+        ("with interrupted and partial writes", "whole", lambda: to_file(LD_PRELOAD=FAULTY)),
+        ("with a failure told when it is closed", "message", lambda: to_file(LD_PRELOAD=FAULTY, FAULTY_CLOSE="1")),
+        ("from a non-blocking pipe with a slow writer", "whole", lambda: from_pipe(INPUT[:1000], INPUT[1000:])),
+        ("from a non-blocking pipe whose writer stops", "no input", lambda: from_pipe(INPUT[:1000], None)),
+        ("from a directory", "no input", from_directory),
+        ("from a closed input", "no input", lambda: to_file(closed=0)),
     ]
     for name, expected, run in cases:
         arrived, said, status = run()
         found = finding(table, arrived, said, status)
         if found != expected:
-            sys.exit(f"output, {name}: {found} where {expected} was expected; {len(arrived)} of {len(table)} bytes arrived")
-        print(f"output, {name}: {found}, {len(arrived)} of {len(table)} bytes: as expected")
+            sys.exit(f"print_table {name}: {found}, where {expected} was expected; {len(arrived)} of {len(table)} bytes arrived")
+        print(f"print_table {name}: {found}, {len(arrived)} of {len(table)} bytes: as expected")
 
 
 main()

@@ -3,7 +3,7 @@ ghost use mathlib.Core.Path.{_≡_};
 ghost use Prim.Native.Nat.{_+_, _≤_, _<_};
 ghost use lib.ListN.{length};
 ghost use lib.IntN.{natAbs};
-use crate::output;
+use crate::streams;
 use libc::STDOUT_FILENO;
 
 // From here on a line may not fit: it has three numbers of at most 21 bytes, two spaces and its end.
@@ -78,7 +78,7 @@ pub struct Buffered {
 fn write_front(s: &[u8], at: usize) -> bool
     requires { ⌜ at ≤ length (now s) ⌝ }
 {
-    output::write_all(STDOUT_FILENO, &s[..at])
+    streams::write_all(STDOUT_FILENO, &s[..at])
 }
 
 // Writes what is in the buffer. Gives whether all of it was written.

@@ -1,9 +1,9 @@
 // Prints the table of an image and a kind with its parameter: 2,066 bytes on standard input, the image and then the two numbers of a byte each. A line `Q bits constant`, then a line `i j value` for each
 // number that is not 0, i rising, then j rising, with `i i` for a single bit; or one line, `refused` and the number.
 // What the numbers mean: E = constant + the value of each bit that is set + the value of each pair i < j whose bits are both set, once.
-// A table is whole or said not to be: the first write that fails is the last, and standard error then has a line about it.
+// A table is whole or said not to be: the first write that fails is the last, and standard error then has a line about it. So it has where the input could not be read.
 mod lines;
-mod output;
+mod streams;
 
 ghost use Prim.Native.Nat.{_+_, _≤_, _<_};
 ghost use lib.ListN.{length};
@@ -150,30 +150,34 @@ fn wide(x: u8) -> u64 {
     x as u64
 }
 
-// The answer to what stands on standard input. One place more than that has, so that a longer one is seen.
-fn answer() -> bool {
-    let mut input = [0u8; 2067];
-    let n = io::read_full(STDIN_FILENO, &mut input);
-    if n != INPUT {
+// The answer to an input, of so many bytes. It is lent with one place more than it has, so that a longer one is seen.
+fn answer(input: &[u8; 2067], len: usize) -> bool {
+    if len != INPUT {
         return print_refusal(1);
     }
     let kind = wide(input[KIND_AT]);
     let parameter = wide(input[PARAMETER_AT]);
-    show_front(&input, kind, parameter)
+    show_front(input, kind, parameter)
 }
 
 // The same, with standard output closed: some file systems tell only then that what they took is lost.
-fn answer_and_close() -> bool {
-    if !answer() {
+fn answer_and_close(input: &[u8; 2067], len: usize) -> bool {
+    if !answer(input, len) {
         return false;
     }
     libc::close(STDOUT_FILENO) == 0
 }
 
-// A program has no exit status of its own in Rattle, so that standard error has to tell a table that is not whole.
+// A program has no exit status of its own in Rattle, so that standard error has to tell what went wrong.
 fn main() {
-    if !answer_and_close() {
-        output::write_all(
+    let mut bytes = [0u8; 2067];
+    let input = streams::read_all(STDIN_FILENO, &mut bytes);
+    if input.failed {
+        streams::write_all(STDERR_FILENO, b"print_table: input failed: no table\n");
+        return;
+    }
+    if !answer_and_close(&bytes, input.len) {
+        streams::write_all(
             STDERR_FILENO,
             b"print_table: output failed: incomplete table\n",
         );

@@ -2,13 +2,13 @@ use Prim.Native.Nat.{_+_, _-_, _*_, _≤_}
 use lib.ListN.{length}
 use native.Mathlib.Omega.{arith}
 use borrow.Author.Needs.{needs}
-use Rattle.print_table.proofs.output.write_all.Statement.{statement}
-use Rattle.print_table.proofs.output.write_all.Tie as tie
+use Rattle.print_table.proofs.streams.write_all.Statement.{statement}
+use Rattle.print_table.proofs.streams.write_all.Tie as tie
 
 abbrev Inv-loop : tie.InvT-loop
 Inv-loop fd bytes done₀ tries₀ done tries = (done ≤ length bytes) × (tries ≤ 10000)
 
--- a turn takes some of the bytes, or one of the tries that are left
+-- a turn moves some of the bytes, or takes one of the tries that are left
 abbrev μ-loop : tie.MeasureT-loop
 μ-loop fd bytes done₀ tries₀ done tries = (length bytes - done) * 10001 + tries
 
@@ -21,17 +21,11 @@ write-from-requires c κs = omega arith
 returns : tie.Need-returns Inv-loop μ-loop
 returns c = search needs
 
-errno-requires : tie.Need-errno-requires Inv-loop μ-loop
-errno-requires c κs = search needs
-
-may-pass-requires : tie.Need-may-pass-requires Inv-loop μ-loop
-may-pass-requires c κs = search needs
+again-requires : tie.Need-again-requires Inv-loop μ-loop
+again-requires c κs = search needs
 
 returns-2 : tie.Need-returns-2 Inv-loop μ-loop
 returns-2 c = search needs
-
-pause-requires : tie.Need-pause-requires Inv-loop μ-loop
-pause-requires c κs = search needs
 
 sub-tries : tie.Need-sub-tries Inv-loop μ-loop
 sub-tries c = omega arith
@@ -63,10 +57,8 @@ write-all-spec =
     loop-holds
     write-from-requires
     returns
-    errno-requires
-    may-pass-requires
+    again-requires
     returns-2
-    pause-requires
     sub-tries
     loop-less
     loop-again

@@ -47,10 +47,10 @@ use Rattle.libc.proofs.nanosleep as nanosleep
 use Rattle.libc.proofs.nanosleep.Symbol as nanosleep-def
 use Rattle.libc.proofs.nanosleep.Symbol.{name as #libc·nanosleep}
 use Rattle.libc.proofs.nanosleep.Met as nanosleep-thm
-use Rattle.print_table.proofs.output.pause.Key.{name as #print_table·output·pause}
-use Rattle.print_table.proofs.output.pause as pause
-use Rattle.print_table.proofs.output.pause.Statement as stated
-use Rattle.print_table.proofs.output.pause.Code as code
+use Rattle.print_table.proofs.streams.pause.Key.{name as #print_table·streams·pause}
+use Rattle.print_table.proofs.streams.pause as pause
+use Rattle.print_table.proofs.streams.pause.Statement as stated
+use Rattle.print_table.proofs.streams.pause.Code as code
 
 abbrev stayed : Stays (pause.ended .signature .params) (pause.ended .kept)
 stayed = tt
@@ -186,6 +186,6 @@ pub pause-spec : {M : Type 1} → stated.statement M
 unfolding code.routine tablesOf
 pause-spec 𝓤 H 𝓜 𝓖 𝓡 =
     entered 𝓤 H (tripleOf 𝓤 H (𝓖 .A) pause.signature (pause.spec 𝓤 H (𝓖 .A) (𝓜 .mem) (𝓡 .run)))
-    (tables 𝓤 H 𝓜 𝓡 code.env .C) (tables 𝓤 H 𝓜 𝓡 code.env .Λ) #print_table·output·pause code.function (code.unfolded 𝓤 H 𝓜 𝓡)
+    (tables 𝓤 H 𝓜 𝓡 code.env .C) (tables 𝓤 H 𝓜 𝓡 code.env .Λ) #print_table·streams·pause code.function (code.unfolded 𝓤 H 𝓜 𝓡)
     (pause-meets 𝓤 H (𝓖 .A) (givenOf 𝓤 H 𝓜 𝓖) (𝓜 .mem) (𝓡 .run) (tablesOf 𝓤 H 𝓜 (tables 𝓤 H 𝓜 𝓡 code.env))
     (cited 𝓤 H (Nanosleep 𝓤 H (𝓖 .A) (𝓜 .mem) (𝓡 .run)) 𝓜 𝓡 code.env #libc·nanosleep nanosleep-def.routine code.calls-libc·nanosleep (nanosleep-thm.met 𝓤 H 𝓜 𝓖 𝓡)))
