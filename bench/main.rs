@@ -2,6 +2,7 @@
 
 mod plain;
 
+use plain::Ask;
 use std::fmt::{Arguments, Debug};
 use std::hint::black_box;
 use std::time::{Duration, Instant};
@@ -16,18 +17,22 @@ const MOST_LINKS: usize = 256;
 // The two implementations, called alike
 // ---------------------------------------------------------------------------------------------------------------------
 
+fn asks(kind: u64, parameter: u64) -> Ask {
+    Ask { kind, parameter }
+}
+
 /// Calls through pointers: neither implementation can be inlined into the measurement.
 struct Library {
     begin: fn(&mut [u8], u64) -> u64,
     add: fn(&mut [u8], u64, u64, u16) -> u64,
     remove: fn(&mut [u8], u64, u64) -> u64,
-    bits: fn(&[u8], u64, u64) -> Result<i64, u64>,
-    penalty: fn(&[u8], u64, u64) -> Result<i64, u64>,
-    constant: fn(&[u8], u64, u64) -> Result<i64, u64>,
-    row: fn(&[u8], u64, u64, u64, &mut [i64]) -> u64,
-    energy: fn(&[u8], u64, u64, &[u8]) -> Result<i64, u64>,
-    code: fn(&[u8], u64, u64, &[u8], &mut [u8]) -> u64,
-    decode: fn(&[u8], u64, u64, &[u8], &mut [u8]) -> Result<(u64, u64), u64>,
+    bits: fn(&[u8], Ask) -> Result<i64, u64>,
+    penalty: fn(&[u8], Ask) -> Result<i64, u64>,
+    constant: fn(&[u8], Ask) -> Result<i64, u64>,
+    row: fn(&[u8], Ask, u64, &mut [i64]) -> u64,
+    energy: fn(&[u8], Ask, &[u8]) -> Result<i64, u64>,
+    code: fn(&[u8], Ask, &[u8], &mut [u8]) -> u64,
+    decode: fn(&[u8], Ask, &[u8], &mut [u8]) -> Result<(u64, u64), u64>,
 }
 
 static OURS: Library = Library {
@@ -58,6 +63,8 @@ static RUST: Library = Library {
 
 /// include/meterplan.h, and its calls over slices.
 mod ours {
+    use super::Ask;
+
     #[repr(C)]
     struct Number {
         refusal: u64,
@@ -65,7 +72,7 @@ mod ours {
     }
 
     #[repr(C)]
-    struct Plan {
+    struct Decoded {
         refusal: u64,
         weight: u64,
         repaired: u64,
@@ -73,20 +80,20 @@ mod ours {
 
     #[rustfmt::skip]
     extern "C" {
-        fn mp_begin(image: *mut u8, image_len: usize, meters: u64) -> u64;
-        fn mp_add(image: *mut u8, image_len: usize, u: u64, v: u64, weight: u16) -> u64;
-        fn mp_remove(image: *mut u8, image_len: usize, u: u64, v: u64) -> u64;
-        fn mp_bits(image: *const u8, image_len: usize, kind: u64, parameter: u64) -> Number;
-        fn mp_penalty(image: *const u8, image_len: usize, kind: u64, parameter: u64) -> Number;
-        fn mp_constant(image: *const u8, image_len: usize, kind: u64, parameter: u64) -> Number;
-        fn mp_row(image: *const u8, image_len: usize, kind: u64, parameter: u64, i: u64,
-                  out: *mut i64, out_len: usize) -> u64;
-        fn mp_energy(image: *const u8, image_len: usize, kind: u64, parameter: u64,
-                     bits: *const u8, bits_len: usize) -> Number;
-        fn mp_code(image: *const u8, image_len: usize, kind: u64, parameter: u64,
-                   plan: *const u8, plan_len: usize, bits: *mut u8, bits_len: usize) -> u64;
-        fn mp_decode(image: *const u8, image_len: usize, kind: u64, parameter: u64,
-                     bits: *const u8, bits_len: usize, plan: *mut u8, plan_len: usize) -> Plan;
+        fn meterplan_begin(image: *mut u8, image_len: usize, meters: u64) -> u64;
+        fn meterplan_add(image: *mut u8, image_len: usize, u: u64, v: u64, weight: u16) -> u64;
+        fn meterplan_remove(image: *mut u8, image_len: usize, u: u64, v: u64) -> u64;
+        fn meterplan_bits(image: *const u8, image_len: usize, ask: Ask) -> Number;
+        fn meterplan_penalty(image: *const u8, image_len: usize, ask: Ask) -> Number;
+        fn meterplan_constant(image: *const u8, image_len: usize, ask: Ask) -> Number;
+        fn meterplan_row(image: *const u8, image_len: usize, ask: Ask, i: u64,
+                         out: *mut i64, out_len: usize) -> u64;
+        fn meterplan_energy(image: *const u8, image_len: usize, ask: Ask,
+                            bits: *const u8, bits_len: usize) -> Number;
+        fn meterplan_code(image: *const u8, image_len: usize, ask: Ask,
+                          plan: *const u8, plan_len: usize, bits: *mut u8, bits_len: usize) -> u64;
+        fn meterplan_decode(image: *const u8, image_len: usize, ask: Ask,
+                            bits: *const u8, bits_len: usize, plan: *mut u8, plan_len: usize) -> Decoded;
     }
 
     /// "A refused call alters nothing, and gives 0 for all its other values."
@@ -101,50 +108,50 @@ mod ours {
     // Safe: every pointer comes from a slice with its length, and what may be altered is borrowed alone.
 
     pub fn begin(image: &mut [u8], meters: u64) -> u64 {
-        unsafe { mp_begin(image.as_mut_ptr(), image.len(), meters) }
+        unsafe { meterplan_begin(image.as_mut_ptr(), image.len(), meters) }
     }
 
     pub fn add(image: &mut [u8], u: u64, v: u64, weight: u16) -> u64 {
-        unsafe { mp_add(image.as_mut_ptr(), image.len(), u, v, weight) }
+        unsafe { meterplan_add(image.as_mut_ptr(), image.len(), u, v, weight) }
     }
 
     pub fn remove(image: &mut [u8], u: u64, v: u64) -> u64 {
-        unsafe { mp_remove(image.as_mut_ptr(), image.len(), u, v) }
+        unsafe { meterplan_remove(image.as_mut_ptr(), image.len(), u, v) }
     }
 
-    pub fn bits(image: &[u8], kind: u64, parameter: u64) -> Result<i64, u64> {
-        let number = unsafe { mp_bits(image.as_ptr(), image.len(), kind, parameter) };
+    pub fn bits(image: &[u8], ask: Ask) -> Result<i64, u64> {
+        let number = unsafe { meterplan_bits(image.as_ptr(), image.len(), ask) };
         answer(number.refusal, number.value)
     }
 
-    pub fn penalty(image: &[u8], kind: u64, parameter: u64) -> Result<i64, u64> {
-        let number = unsafe { mp_penalty(image.as_ptr(), image.len(), kind, parameter) };
+    pub fn penalty(image: &[u8], ask: Ask) -> Result<i64, u64> {
+        let number = unsafe { meterplan_penalty(image.as_ptr(), image.len(), ask) };
         answer(number.refusal, number.value)
     }
 
-    pub fn constant(image: &[u8], kind: u64, parameter: u64) -> Result<i64, u64> {
-        let number = unsafe { mp_constant(image.as_ptr(), image.len(), kind, parameter) };
+    pub fn constant(image: &[u8], ask: Ask) -> Result<i64, u64> {
+        let number = unsafe { meterplan_constant(image.as_ptr(), image.len(), ask) };
         answer(number.refusal, number.value)
     }
 
-    pub fn row(image: &[u8], kind: u64, parameter: u64, i: u64, out: &mut [i64]) -> u64 {
-        unsafe { mp_row(image.as_ptr(), image.len(), kind, parameter, i, out.as_mut_ptr(), out.len()) }
+    pub fn row(image: &[u8], ask: Ask, i: u64, out: &mut [i64]) -> u64 {
+        unsafe { meterplan_row(image.as_ptr(), image.len(), ask, i, out.as_mut_ptr(), out.len()) }
     }
 
-    pub fn energy(image: &[u8], kind: u64, parameter: u64, bits: &[u8]) -> Result<i64, u64> {
-        let number = unsafe { mp_energy(image.as_ptr(), image.len(), kind, parameter, bits.as_ptr(), bits.len()) };
+    pub fn energy(image: &[u8], ask: Ask, bits: &[u8]) -> Result<i64, u64> {
+        let number = unsafe { meterplan_energy(image.as_ptr(), image.len(), ask, bits.as_ptr(), bits.len()) };
         answer(number.refusal, number.value)
     }
 
-    pub fn code(image: &[u8], kind: u64, parameter: u64, plan: &[u8], bits: &mut [u8]) -> u64 {
+    pub fn code(image: &[u8], ask: Ask, plan: &[u8], bits: &mut [u8]) -> u64 {
         let (lent, out) = ((plan.as_ptr(), plan.len()), (bits.as_mut_ptr(), bits.len()));
-        unsafe { mp_code(image.as_ptr(), image.len(), kind, parameter, lent.0, lent.1, out.0, out.1) }
+        unsafe { meterplan_code(image.as_ptr(), image.len(), ask, lent.0, lent.1, out.0, out.1) }
     }
 
-    pub fn decode(image: &[u8], kind: u64, parameter: u64, bits: &[u8], plan: &mut [u8]) -> Result<(u64, u64), u64> {
+    pub fn decode(image: &[u8], ask: Ask, bits: &[u8], plan: &mut [u8]) -> Result<(u64, u64), u64> {
         let (lent, out) = ((bits.as_ptr(), bits.len()), (plan.as_mut_ptr(), plan.len()));
-        let plan = unsafe { mp_decode(image.as_ptr(), image.len(), kind, parameter, lent.0, lent.1, out.0, out.1) };
-        answer(plan.refusal, (plan.weight, plan.repaired))
+        let decoded = unsafe { meterplan_decode(image.as_ptr(), image.len(), ask, lent.0, lent.1, out.0, out.1) };
+        answer(decoded.refusal, (decoded.weight, decoded.repaired))
     }
 }
 
@@ -309,9 +316,9 @@ impl Survey {
         survey
     }
 
-    fn bits(&self, kind: u64, parameter: u64) -> Result<usize, u64> {
-        let what = format_args!("bits, kind {kind}, parameter {parameter}");
-        asked(what, |library| (library.bits)(&self.image, kind, parameter)).map(|bits| bits as usize)
+    fn bits(&self, ask: Ask) -> Result<usize, u64> {
+        let what = format_args!("bits, {ask:?}");
+        asked(what, |library| (library.bits)(&self.image, ask)).map(|bits| bits as usize)
     }
 
     /// Parents found breadth first from a meter, nobody with more than `limit` neighbours; a meter not reached stays
@@ -337,10 +344,10 @@ impl Survey {
     }
 
     /// Bytes that are mostly a plan, if there is one.
-    fn plan(&self, kind: u64, parameter: u64, random: &mut Random) -> Vec<u8> {
+    fn plan(&self, ask: Ask, random: &mut Random) -> Vec<u8> {
         let meters = self.meters as usize;
-        let choices = parameter.clamp(1, 255) as usize;
-        match kind {
+        let choices = ask.parameter.clamp(1, 255) as usize;
+        match ask.kind {
             CHANNELS => (0..meters).map(|_| 1 + random.below(choices) as u8).collect(),
             GROUPS => {
                 let mut plan: Vec<u8> = (0..meters).map(|meter| 1 + (meter % choices) as u8).collect();
@@ -397,30 +404,29 @@ fn channel_mix(meters: usize, n: usize, random: &mut Random) -> Vec<u8> {
 // That both give the same
 // ---------------------------------------------------------------------------------------------------------------------
 
-/// What is lent, with its kind and parameter; said when something differs.
+/// What is lent, and what is asked for; said when something differs.
 #[derive(Clone, Copy)]
 struct Problem<'a> {
     image: &'a [u8],
-    kind: u64,
-    parameter: u64,
+    ask: Ask,
 }
 
 impl Problem<'_> {
     fn numbers(&self) -> Result<i64, u64> {
-        let &Problem { image, kind, parameter } = self;
-        let what = |name| format!("{name}, kind {kind}, parameter {parameter}");
-        asked(format_args!("{}", what("penalty")), |library| (library.penalty)(image, kind, parameter)).ok();
-        asked(format_args!("{}", what("constant")), |library| (library.constant)(image, kind, parameter)).ok();
-        asked(format_args!("{}", what("bits")), |library| (library.bits)(image, kind, parameter))
+        let &Problem { image, ask } = self;
+        let what = |name| format!("{name}, {ask:?}");
+        asked(format_args!("{}", what("penalty")), |library| (library.penalty)(image, ask)).ok();
+        asked(format_args!("{}", what("constant")), |library| (library.constant)(image, ask)).ok();
+        asked(format_args!("{}", what("bits")), |library| (library.bits)(image, ask))
     }
 
     /// The row and three places after it, or as many fewer as `short` says.
     fn row(&self, i: u64, bits: usize, short: usize) -> u64 {
-        let &Problem { image, kind, parameter } = self;
+        let &Problem { image, ask } = self;
         let length = bits.saturating_sub(i as usize);
         let mut out = vec![-0x5A5A_5A5A_5A5A; (length + 3).saturating_sub(short)];
-        let what = format_args!("row {i}, kind {kind}, parameter {parameter}, lent {}", out.len());
-        let answer = lent(what, &mut out, |library, out| (library.row)(image, kind, parameter, i, out));
+        let what = format_args!("row {i}, {ask:?}, lent {}", out.len());
+        let answer = lent(what, &mut out, |library, out| (library.row)(image, ask, i, out));
         if answer == 0 {
             same(format_args!("{what}, rest"), out[length..].iter().all(|&rest| rest == -0x5A5A_5A5A_5A5A), true);
         }
@@ -428,26 +434,26 @@ impl Problem<'_> {
     }
 
     fn energy(&self, bits: &[u8]) -> Result<i64, u64> {
-        let &Problem { image, kind, parameter } = self;
-        let what = format_args!("energy, kind {kind}, parameter {parameter}, {} bits", bits.len());
-        asked(what, |library| (library.energy)(image, kind, parameter, bits))
+        let &Problem { image, ask } = self;
+        let what = format_args!("energy, {ask:?}, {} bits", bits.len());
+        asked(what, |library| (library.energy)(image, ask, bits))
     }
 
     fn code(&self, plan: &[u8], bits: usize) -> Result<Vec<u8>, u64> {
-        let &Problem { image, kind, parameter } = self;
+        let &Problem { image, ask } = self;
         let mut code = vec![0xA5; bits];
-        let what = format_args!("code, kind {kind}, parameter {parameter}, plan {plan:?}");
-        match lent(what, &mut code, |library, code| (library.code)(image, kind, parameter, plan, code)) {
+        let what = format_args!("code, {ask:?}, plan {plan:?}");
+        match lent(what, &mut code, |library, code| (library.code)(image, ask, plan, code)) {
             0 => Ok(code),
             refusal => Err(refusal),
         }
     }
 
     fn decode(&self, bits: &[u8], meters: usize) -> Result<Vec<u8>, u64> {
-        let &Problem { image, kind, parameter } = self;
+        let &Problem { image, ask } = self;
         let mut plan = vec![0xA5; meters];
-        let what = format_args!("decode, kind {kind}, parameter {parameter}, {} bits", bits.len());
-        lent(what, &mut plan, |library, plan| (library.decode)(image, kind, parameter, bits, plan)).map(|_| plan)
+        let what = format_args!("decode, {ask:?}, {} bits", bits.len());
+        lent(what, &mut plan, |library, plan| (library.decode)(image, ask, bits, plan)).map(|_| plan)
     }
 }
 
@@ -470,12 +476,12 @@ impl Tally {
 
 /// One plan and its code, also spoilt by one byte, and what comes of them.
 fn check_plan(survey: &Survey, problem: Problem, random: &mut Random, tally: &mut Tally) {
-    let bits = survey.bits(problem.kind, problem.parameter).expect("accepted");
-    let mut plan = survey.plan(problem.kind, problem.parameter, random);
+    let bits = survey.bits(problem.ask).expect("accepted");
+    let mut plan = survey.plan(problem.ask, random);
     if let Ok(mut code) = tally.note(problem.code(&plan, bits)) {
         tally.note(problem.energy(&code)).ok();
         let back = tally.note(problem.decode(&code, plan.len()));
-        same(format_args!("plan of a code, kind {}", problem.kind), back, Ok(plan.clone()));
+        same(format_args!("plan of a code, {:?}", problem.ask), back, Ok(plan.clone()));
         let at = random.below(bits);
         code[at] ^= 1;
         tally.note(problem.energy(&code)).ok();
@@ -492,10 +498,10 @@ fn check_plan(survey: &Survey, problem: Problem, random: &mut Random, tally: &mu
 }
 
 fn check_assignment(survey: &Survey, problem: Problem, random: &mut Random, tally: &mut Tally) {
-    let length = survey.bits(problem.kind, problem.parameter).expect("accepted");
+    let length = survey.bits(problem.ask).expect("accepted");
     let density = [1, 2, 3, 16, 200][random.below(5)];
-    let mut bits = match problem.kind {
-        CHANNELS if random.one_in(2) => channel_mix(survey.meters as usize, problem.parameter as usize, random),
+    let mut bits = match problem.ask.kind {
+        CHANNELS if random.one_in(2) => channel_mix(survey.meters as usize, problem.ask.parameter as usize, random),
         _ => random.bits(length, density),
     };
     let meters = survey.meters as usize;
@@ -513,8 +519,8 @@ fn check_assignment(survey: &Survey, problem: Problem, random: &mut Random, tall
 }
 
 /// All rows, refused ones, and that many assignments and plans.
-fn check_problem(survey: &Survey, kind: u64, parameter: u64, tries: usize, random: &mut Random, tally: &mut Tally) {
-    let problem = Problem { image: &survey.image, kind, parameter };
+fn check_problem(survey: &Survey, ask: Ask, tries: usize, random: &mut Random, tally: &mut Tally) {
+    let problem = Problem { image: &survey.image, ask };
     let Ok(bits) = tally.note(problem.numbers()) else {
         every_call(survey, problem, random, tally);
         return;
@@ -538,9 +544,9 @@ fn check_problem(survey: &Survey, kind: u64, parameter: u64, tries: usize, rando
     }
 }
 
-/// Every call once, with an image and a kind that may be anything; the survey tells what may fit.
+/// Every call once, with an image and an ask that may be anything; the survey tells what may fit.
 fn every_call(survey: &Survey, problem: Problem, random: &mut Random, tally: &mut Tally) {
-    let Problem { image, kind, parameter } = problem;
+    let Problem { image, ask } = problem;
     let meters = survey.meters as usize;
     let bits = tally.note(problem.numbers()).map_or(64 + random.below(8), |bits| bits as usize);
     let meters = if random.one_in(8) { random.below(49) } else { meters };
@@ -549,7 +555,7 @@ fn every_call(survey: &Survey, problem: Problem, random: &mut Random, tally: &mu
     let assignment = random.bits(bits, density);
     tally.note(problem.energy(&assignment)).ok();
     tally.note(problem.decode(&assignment, meters)).ok();
-    tally.note(problem.code(&survey.plan(kind, parameter, random), bits)).ok();
+    tally.note(problem.code(&survey.plan(ask, random), bits)).ok();
     let (u, v, weight) = (random.from(0, 50), random.from(0, 50), random.weight());
     for mut altered in [image.to_vec(), image.to_vec()] {
         let what = format_args!("add {u}-{v} to a spoilt image");
@@ -561,11 +567,11 @@ fn every_call(survey: &Survey, problem: Problem, random: &mut Random, tally: &mu
     }
 }
 
-fn random_kind(random: &mut Random) -> (u64, u64) {
+fn random_ask(random: &mut Random) -> Ask {
     match random.below(3) {
-        0 => (CHANNELS, random.from(1, 16)),
-        1 => (GROUPS, random.from(2, 16)),
-        _ => (TREE, random.from(1, 47)),
+        0 => asks(CHANNELS, random.from(1, 16)),
+        1 => asks(GROUPS, random.from(2, 16)),
+        _ => asks(TREE, random.from(1, 47)),
     }
 }
 
@@ -604,8 +610,8 @@ fn check_spoilt_images(random: &mut Random, tally: &mut Tally) {
             for _ in 0..100 {
                 let mut image = survey.image.clone();
                 spoil(&mut image, random);
-                let (kind, parameter) = random_kind(random);
-                every_call(&survey, Problem { image: &image, kind, parameter }, random, tally);
+                let ask = random_ask(random);
+                every_call(&survey, Problem { image: &image, ask }, random, tally);
             }
         }
     }
@@ -620,14 +626,14 @@ fn check_refusals(random: &mut Random, tally: &mut Tally) {
     for survey in [&one, &some, &full] {
         for kind in numbers {
             for parameter in numbers {
-                every_call(survey, Problem { image: &survey.image, kind, parameter }, random, tally);
+                every_call(survey, Problem { image: &survey.image, ask: asks(kind, parameter) }, random, tally);
             }
         }
         for length in [0, 1, 16, IMAGE - 1, IMAGE + 1, 2 * IMAGE] {
             let mut image = survey.image.clone();
             image.resize(length, 0);
-            let (kind, parameter) = random_kind(random);
-            every_call(survey, Problem { image: &image, kind, parameter }, random, tally);
+            let ask = random_ask(random);
+            every_call(survey, Problem { image: &image, ask }, random, tally);
         }
     }
     for meters in numbers {
@@ -653,8 +659,8 @@ fn check_edits(meters: u64, edits: usize, random: &mut Random, tally: &mut Tally
         let answer = if random.one_in(8) != adding { survey.add(u, v, weight) } else { survey.remove(u, v) };
         tally.note_number(answer);
         if edit % 50 == 0 {
-            let (kind, parameter) = random_kind(random);
-            every_call(&survey, Problem { image: &survey.image, kind, parameter }, random, tally);
+            let ask = random_ask(random);
+            every_call(&survey, Problem { image: &survey.image, ask }, random, tally);
         }
     }
 }
@@ -663,10 +669,10 @@ fn check_small_sites(random: &mut Random, tally: &mut Tally) {
     for _ in 0..150 {
         let meters = random.from(1, 12);
         let survey = Survey::random(meters, random.below(20), random);
-        let (kind, parameter) = random_kind(random);
-        check_problem(&survey, kind, parameter, 4, random, tally);
-        let (kind, parameter) = (random.from(1, 3), random.from(1, 4));
-        check_problem(&survey, kind, parameter, 8, random, tally);
+        let ask = random_ask(random);
+        check_problem(&survey, ask, 4, random, tally);
+        let ask = asks(random.from(1, 3), random.from(1, 4));
+        check_problem(&survey, ask, 8, random, tally);
     }
 }
 
@@ -674,8 +680,7 @@ fn check_small_sites(random: &mut Random, tally: &mut Tally) {
 struct Case {
     name: &'static str,
     survey: Survey,
-    kind: u64,
-    parameter: u64,
+    ask: Ask,
     bits: usize,
     random: Vec<u8>,
     plan: Vec<u8>,
@@ -685,30 +690,30 @@ struct Case {
 
 impl Case {
     /// Trees get one bit in 50, others one in 4.
-    fn new(name: &'static str, survey: Survey, kind: u64, parameter: u64, random: &mut Random) -> Case {
-        let bits = survey.bits(kind, parameter).expect("accepted");
-        let assignment = random.bits(bits, if kind == TREE { 50 } else { 4 });
-        let mut plan = survey.plan(kind, parameter, random);
+    fn new(name: &'static str, survey: Survey, ask: Ask, random: &mut Random) -> Case {
+        let bits = survey.bits(ask).expect("accepted");
+        let assignment = random.bits(bits, if ask.kind == TREE { 50 } else { 4 });
+        let mut plan = survey.plan(ask, random);
         let mut coded = vec![0; bits];
-        if (RUST.code)(&survey.image, kind, parameter, &plan, &mut coded) != 0 {
-            assert_eq!((kind, parameter), (TREE, 1), "only the tree with d = 1 is without a plan");
+        if (RUST.code)(&survey.image, ask, &plan, &mut coded) != 0 {
+            assert_eq!((ask.kind, ask.parameter), (TREE, 1), "only the tree with d = 1 is without a plan");
             plan = survey.parents(1, 47);
             coded = survey.near_code(&plan, 1);
         }
-        Case { name, survey, kind, parameter, bits, random: assignment, plan, coded }
+        Case { name, survey, ask, bits, random: assignment, plan, coded }
     }
 
     fn problem(&self) -> Problem<'_> {
-        Problem { image: &self.survey.image, kind: self.kind, parameter: self.parameter }
+        Problem { image: &self.survey.image, ask: self.ask }
     }
 
     /// Whether the tree's limit lets no plan be.
     fn planless(&self) -> bool {
-        self.kind == TREE && self.parameter == 1
+        self.ask.kind == TREE && self.ask.parameter == 1
     }
 
     fn check(&self, random: &mut Random, tally: &mut Tally) {
-        check_problem(&self.survey, self.kind, self.parameter, 300, random, tally);
+        check_problem(&self.survey, self.ask, 300, random, tally);
         for bits in [&self.random, &self.coded] {
             tally.note(self.problem().energy(bits)).ok();
             tally.note(self.problem().decode(bits, self.plan.len())).ok();
@@ -722,10 +727,10 @@ fn cases(random: &mut Random) -> Vec<Case> {
     let wide = Survey::random(48, 144, random);
     let dense = Survey::random(24, 200, random);
     vec![
-        Case::new("channels 48x16, 256 links", full.clone(), CHANNELS, 16, random),
-        Case::new("groups 48x16, 256 links", full, GROUPS, 16, random),
-        Case::new("tree 48, 144 links, d=1", wide, TREE, 1, random),
-        Case::new("tree 24, 200 links, d=12", dense, TREE, 12, random),
+        Case::new("channels 48x16, 256 links", full.clone(), asks(CHANNELS, 16), random),
+        Case::new("groups 48x16, 256 links", full, asks(GROUPS, 16), random),
+        Case::new("tree 48, 144 links, d=1", wide, asks(TREE, 1), random),
+        Case::new("tree 24, 200 links, d=12", dense, asks(TREE, 12), random),
     ]
 }
 
@@ -781,31 +786,31 @@ fn measure(name: &str, mut work: impl FnMut(&Library)) {
 }
 
 fn measure_table(case: &Case) {
-    let Problem { image, kind, parameter } = case.problem();
+    let Problem { image, ask } = case.problem();
     let mut out = vec![0; case.bits];
     measure(&format!("table, {} ({} bits)", case.name, case.bits), |library| {
         let image = black_box(image);
-        let bits = (library.bits)(image, kind, parameter).unwrap_or(0);
-        let _ = black_box((library.constant)(image, kind, parameter));
+        let bits = (library.bits)(image, ask).unwrap_or(0);
+        let _ = black_box((library.constant)(image, ask));
         for i in 0..black_box(bits) as u64 {
-            black_box((library.row)(image, kind, parameter, i, black_box(&mut out)));
+            black_box((library.row)(image, ask, i, black_box(&mut out)));
         }
     });
 }
 
 fn measure_energy(case: &Case) {
-    let Problem { image, kind, parameter } = case.problem();
+    let Problem { image, ask } = case.problem();
     let code = if case.planless() { "all but a code" } else { "a plan's code" };
     for (what, bits) in [("random bits", &case.random), (code, &case.coded)] {
         measure(&format!("energy, {}, {what}", case.name), |library| {
-            let _ = black_box((library.energy)(black_box(image), kind, parameter, black_box(bits)));
+            let _ = black_box((library.energy)(black_box(image), ask, black_box(bits)));
         });
     }
 }
 
 fn measure_decode(case: &Case, random: &mut Random) {
-    let Problem { image, kind, parameter } = case.problem();
-    let (what, bits) = match kind {
+    let Problem { image, ask } = case.problem();
+    let (what, bits) = match ask.kind {
         CHANNELS => ("none, one, several", channel_mix(48, 16, random)),
         _ if case.planless() => ("random bits, refused 12", case.random.clone()),
         _ => ("a plan's code", case.coded.clone()),
@@ -813,17 +818,17 @@ fn measure_decode(case: &Case, random: &mut Random) {
     let mut plan = vec![0; case.plan.len()];
     case.problem().decode(&bits, plan.len()).ok();
     measure(&format!("decode, {}, {what}", case.name), |library| {
-        let _ = black_box((library.decode)(black_box(image), kind, parameter, black_box(&bits), black_box(&mut plan)));
+        let _ = black_box((library.decode)(black_box(image), ask, black_box(&bits), black_box(&mut plan)));
     });
 }
 
 fn measure_code(case: &Case) {
-    let Problem { image, kind, parameter } = case.problem();
+    let Problem { image, ask } = case.problem();
     let mut bits = vec![0; case.bits];
     let what = if case.planless() { "no plan, refused 12" } else { "a plan" };
     measure(&format!("code, {}, {what}", case.name), |library| {
         let plan = black_box(&case.plan);
-        black_box((library.code)(black_box(image), kind, parameter, plan, black_box(&mut bits)));
+        black_box((library.code)(black_box(image), ask, plan, black_box(&mut bits)));
     });
 }
 

@@ -262,6 +262,14 @@ fn try_remove(image: &mut [u8], u: u64, v: u64) -> Result<(), u64> {
 // Problems: an accepted image and a kind with its parameter
 // ---------------------------------------------------------------------------------------------------------------------
 
+/// What is asked for. Its fields lie as in C, so that the same can be asked of both.
+#[repr(C)]
+#[derive(Clone, Copy, Debug)]
+pub struct Ask {
+    pub kind: u64,
+    pub parameter: u64,
+}
+
 enum Kind {
     /// With the number of channels.
     Channels(usize),
@@ -312,10 +320,10 @@ struct Problem<'a> {
     bits: usize,
 }
 
-fn read_problem<'a>(image: &[u8], kind: u64, parameter: u64, room: &'a mut Room) -> Result<Problem<'a>, u64> {
+fn read_problem<'a>(image: &[u8], ask: Ask, room: &'a mut Room) -> Result<Problem<'a>, u64> {
     let site = read_site(image, room)?;
-    let (kind, penalty, bits) = match (kind, parameter as usize) {
-        _ if parameter > MOST_METERS as u64 => return Err(BAD_KIND),
+    let (kind, penalty, bits) = match (ask.kind, ask.parameter as usize) {
+        _ if ask.parameter > MOST_METERS as u64 => return Err(BAD_KIND),
         (1, n @ 1..=MOST_CHANNELS) => (Kind::Channels(n), 1 + site.greatest_weight_at_a_meter(), site.meters * n),
         (2, m @ 2..=MOST_CHANNELS) => (Kind::Groups(m), 1 + 2 * site.total_weight(), site.meters * m),
         (3, d @ 1..=47) if site.meters >= 2 => {
@@ -330,20 +338,20 @@ fn read_problem<'a>(image: &[u8], kind: u64, parameter: u64, room: &'a mut Room)
     Ok(Problem { site, kind, penalty, bits })
 }
 
-pub fn bits(image: &[u8], kind: u64, parameter: u64) -> Result<i64, u64> {
+pub fn bits(image: &[u8], ask: Ask) -> Result<i64, u64> {
     let mut room = ROOM;
-    Ok(read_problem(image, kind, parameter, &mut room)?.bits as i64)
+    Ok(read_problem(image, ask, &mut room)?.bits as i64)
 }
 
-pub fn penalty(image: &[u8], kind: u64, parameter: u64) -> Result<i64, u64> {
+pub fn penalty(image: &[u8], ask: Ask) -> Result<i64, u64> {
     let mut room = ROOM;
-    Ok(read_problem(image, kind, parameter, &mut room)?.penalty)
+    Ok(read_problem(image, ask, &mut room)?.penalty)
 }
 
 /// The energy of all-zero bits: A for each square whose sum starts at 1.
-pub fn constant(image: &[u8], kind: u64, parameter: u64) -> Result<i64, u64> {
+pub fn constant(image: &[u8], ask: Ask) -> Result<i64, u64> {
     let mut room = ROOM;
-    let problem = read_problem(image, kind, parameter, &mut room)?;
+    let problem = read_problem(image, ask, &mut room)?;
     let meters = problem.site.meters as i64;
     let squares = match problem.kind {
         Kind::Channels(_) | Kind::Groups(_) => meters,
@@ -356,14 +364,14 @@ pub fn constant(image: &[u8], kind: u64, parameter: u64) -> Result<i64, u64> {
 // Rows
 // ---------------------------------------------------------------------------------------------------------------------
 
-pub fn row(image: &[u8], kind: u64, parameter: u64, i: u64, out: &mut [i64]) -> u64 {
-    number(try_row(image, kind, parameter, i, out))
+pub fn row(image: &[u8], ask: Ask, i: u64, out: &mut [i64]) -> u64 {
+    number(try_row(image, ask, i, out))
 }
 
 /// "Of several, the lowest number is given, except that 10 precedes 9."
-fn try_row(image: &[u8], kind: u64, parameter: u64, i: u64, out: &mut [i64]) -> Result<(), u64> {
+fn try_row(image: &[u8], ask: Ask, i: u64, out: &mut [i64]) -> Result<(), u64> {
     let mut room = ROOM;
-    let problem = read_problem(image, kind, parameter, &mut room)?;
+    let problem = read_problem(image, ask, &mut room)?;
     if i >= problem.bits as u64 {
         return Err(BAD_ROW);
     }
@@ -490,9 +498,9 @@ fn count_row(problem: &Problem, shape: &Shape, i: usize, row: &mut [i64]) {
 // Energies
 // ---------------------------------------------------------------------------------------------------------------------
 
-pub fn energy(image: &[u8], kind: u64, parameter: u64, bits: &[u8]) -> Result<i64, u64> {
+pub fn energy(image: &[u8], ask: Ask, bits: &[u8]) -> Result<i64, u64> {
     let mut room = ROOM;
-    let problem = read_problem(image, kind, parameter, &mut room)?;
+    let problem = read_problem(image, ask, &mut room)?;
     check_bits(&problem, bits)?;
     Ok(match &problem.kind {
         Kind::Channels(n) => channels_energy(&problem, *n, bits),
@@ -611,13 +619,13 @@ fn tree_energy(problem: &Problem, shape: &Shape, bits: &[u8]) -> i64 {
 // Plans and their codes
 // ---------------------------------------------------------------------------------------------------------------------
 
-pub fn code(image: &[u8], kind: u64, parameter: u64, plan: &[u8], bits: &mut [u8]) -> u64 {
-    number(try_code(image, kind, parameter, plan, bits))
+pub fn code(image: &[u8], ask: Ask, plan: &[u8], bits: &mut [u8]) -> u64 {
+    number(try_code(image, ask, plan, bits))
 }
 
-fn try_code(image: &[u8], kind: u64, parameter: u64, plan: &[u8], bits: &mut [u8]) -> Result<(), u64> {
+fn try_code(image: &[u8], ask: Ask, plan: &[u8], bits: &mut [u8]) -> Result<(), u64> {
     let mut room = ROOM;
-    let problem = read_problem(image, kind, parameter, &mut room)?;
+    let problem = read_problem(image, ask, &mut room)?;
     if plan.len() != problem.site.meters || bits.len() != problem.bits {
         return Err(BAD_LENGTH);
     }
@@ -712,9 +720,9 @@ fn depth_of(plan: &[u8], meter: usize, most: usize) -> Option<usize> {
     None
 }
 
-pub fn decode(image: &[u8], kind: u64, parameter: u64, bits: &[u8], plan: &mut [u8]) -> Result<(u64, u64), u64> {
+pub fn decode(image: &[u8], ask: Ask, bits: &[u8], plan: &mut [u8]) -> Result<(u64, u64), u64> {
     let mut room = ROOM;
-    let problem = read_problem(image, kind, parameter, &mut room)?;
+    let problem = read_problem(image, ask, &mut room)?;
     if plan.len() != problem.site.meters {
         return Err(BAD_LENGTH);
     }

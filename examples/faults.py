@@ -141,15 +141,19 @@ def from_directory():
     return found
 
 
+class Ask(ctypes.Structure):
+    _fields_ = [("kind", ctypes.c_uint64), ("parameter", ctypes.c_uint64)]
+
+
 class Number(ctypes.Structure):
     _fields_ = [("refusal", ctypes.c_uint64), ("value", ctypes.c_int64)]
 
 
-def ask(name, *more, gives=Number):
+def call(name, *more, gives=Number):
     """A call of the C interface with the image, kind and parameter of the input."""
-    function = ctypes.CDLL(LIBRARY)[name]
+    function = ctypes.CDLL(LIBRARY)["meterplan_" + name]
     function.restype = gives
-    answer = function(INPUT[:2064], ctypes.c_size_t(2064), ctypes.c_uint64(INPUT[2064]), ctypes.c_uint64(INPUT[2065]), *more)
+    answer = function(INPUT[:2064], ctypes.c_size_t(2064), Ask(*INPUT[2064:]), *more)
     if getattr(answer, "refusal", answer) != 0:
         sys.exit(f"{name} refused: {answer}")
     return answer
@@ -157,11 +161,11 @@ def ask(name, *more, gives=Number):
 
 def whole_table():
     """The lines that the program is to print, with the numbers of the C interface."""
-    bits = ask("mp_bits").value
+    bits = call("bits").value
     row = (ctypes.c_int64 * bits)()
-    lines = [f"Q {bits} {ask('mp_constant').value}"]
+    lines = [f"Q {bits} {call('constant').value}"]
     for i in range(bits):
-        ask("mp_row", ctypes.c_uint64(i), row, ctypes.c_size_t(bits), gives=ctypes.c_uint64)
+        call("row", ctypes.c_uint64(i), row, ctypes.c_size_t(bits), gives=ctypes.c_uint64)
         lines += [f"{i} {i + k} {z}" for k, z in enumerate(row[:bits - i]) if z]
     return "\n".join(lines).encode() + b"\n"
 

@@ -16,7 +16,7 @@ static void expect(const char *call, uint64_t refusal)
     }
 }
 
-static int64_t number(const char *call, mp_number n)
+static int64_t number(const char *call, meterplan_number n)
 {
     expect(call, n.refusal);
     return n.value;
@@ -32,26 +32,27 @@ static void print_bytes(const char *name, const uint8_t *bytes, size_t len)
 
 int main(void)
 {
-    uint8_t image[MP_IMAGE], bits[BITS], plan[METERS] = {1, 2, 1, 2};
+    uint8_t image[METERPLAN_IMAGE], bits[BITS], plan[METERS] = {1, 2, 1, 2};
     int64_t row[BITS];
+    meterplan_ask ask = {.kind = METERPLAN_CHANNELS, .parameter = CHANNELS};
 
-    expect("begin", mp_begin(image, sizeof image, METERS));
+    expect("begin", meterplan_begin(image, sizeof image, METERS));
     for (unsigned v = 1; v <= METERS; v++)
-        expect("add", mp_add(image, sizeof image, v, v % METERS + 1, 3));
+        expect("add", meterplan_add(image, sizeof image, v, v % METERS + 1, 3));
 
-    printf("Q %" PRId64, number("bits", mp_bits(image, sizeof image, MP_CHANNELS, CHANNELS)));
-    printf(" %" PRId64 "\n", number("constant", mp_constant(image, sizeof image, MP_CHANNELS, CHANNELS)));
-    expect("row", mp_row(image, sizeof image, MP_CHANNELS, CHANNELS, 0, row, BITS));
+    printf("Q %" PRId64, number("bits", meterplan_bits(image, sizeof image, ask)));
+    printf(" %" PRId64 "\n", number("constant", meterplan_constant(image, sizeof image, ask)));
+    expect("row", meterplan_row(image, sizeof image, ask, 0, row, BITS));
     for (int j = 0; j < BITS; j++)
         if (row[j] != 0)
             printf("0 %d %" PRId64 "\n", j, row[j]);
 
-    expect("code", mp_code(image, sizeof image, MP_CHANNELS, CHANNELS, plan, sizeof plan, bits, sizeof bits));
+    expect("code", meterplan_code(image, sizeof image, ask, plan, sizeof plan, bits, sizeof bits));
     print_bytes("code", bits, sizeof bits);
 
     bits[4] = 0; /* meter 3 falls silent */
-    printf("damaged: energy %" PRId64 "\n", number("energy", mp_energy(image, sizeof image, MP_CHANNELS, CHANNELS, bits, sizeof bits)));
-    mp_plan decoded = mp_decode(image, sizeof image, MP_CHANNELS, CHANNELS, bits, sizeof bits, plan, sizeof plan);
+    printf("damaged: energy %" PRId64 "\n", number("energy", meterplan_energy(image, sizeof image, ask, bits, sizeof bits)));
+    meterplan_decoded decoded = meterplan_decode(image, sizeof image, ask, bits, sizeof bits, plan, sizeof plan);
     expect("decode", decoded.refusal);
     print_bytes("plan", plan, sizeof plan);
     printf("weight %" PRIu64 ", repaired %" PRIu64 "\n", decoded.weight, decoded.repaired);

@@ -6,7 +6,8 @@
  * is there. A refused call alters nothing, and gives 0 for all its other values. A slice is a pointer and a length. The
  * lengths are part of the input: a wrong one is a refusal. Only the pointers are believed: each must be to that many
  * elements (not null, even where the length is 0), and what a call may alter must not overlap anything else lent to it.
- * Nothing is kept between calls, and nothing is allocated.
+ * What is asked for is a meterplan_ask, by value: "kind" and "parameter" below are its fields. Nothing is kept between
+ * calls, and nothing is allocated.
  *
  * What a table's numbers mean: the energy of an assignment is the constant, plus the number of each bit that is set, plus
  * the number of each pair i < j whose bits are both set, once. (A symmetric matrix has half of a pair's number in each of
@@ -14,18 +15,18 @@
  *
  * Of several refusals the lowest number is given, except that 10 comes before 9:
  *
- *  1 image    not 2,064 bytes, or breaks a rule of images (mp_begin: length only)
- *  2 ends     mp_add, mp_remove: an end is 0 or above the number of meters, or both are equal
- *  3 weight   mp_add: 0
- *  4 present  mp_add: that link is there
- *  5 absent   mp_remove: no such link
- *  6 full     mp_add: 256 links are there
- *  7 kind     kind not 1..3, parameter outside its limits, or kind 3 with one meter (mp_begin: meters not 1..48)
+ *  1 image    not 2,064 bytes, or breaks a rule of images (meterplan_begin: length only)
+ *  2 ends     meterplan_add, meterplan_remove: an end is 0 or above the number of meters, or both are equal
+ *  3 weight   meterplan_add: 0
+ *  4 present  meterplan_add: that link is there
+ *  5 absent   meterplan_remove: no such link
+ *  6 full     meterplan_add: 256 links are there
+ *  7 kind     kind not 1..3, parameter outside its limits, or kind 3 with one meter (meterplan_begin: meters not 1..48)
  *  8 bits     more than 8,192 bits
  *  9 length   out shorter than the row; bits or plan of another length than needed
  * 10 row      row number at or above the number of bits
- * 11 value    mp_energy, mp_decode: a lent bit is neither 0 nor 1
- * 12 no plan  mp_code: the bytes are no plan; mp_decode: the bits of groups or a tree code none
+ * 11 value    meterplan_energy, meterplan_decode: a lent bit is neither 0 nor 1
+ * 12 no plan  meterplan_code: the bytes are no plan; meterplan_decode: the bits of groups or a tree code none
  *
  * Bits, counted from 0, with N meters from 1 and parameter n. Channels and groups: bit (v - 1) * n + (i - 1) is meter v on
  * channel i, or in group i. Trees, with D = N / 2 rounded down: first for each meter its depths 0..D; then for each link in
@@ -43,41 +44,44 @@ extern "C" {
 #endif
 
 /* Bytes of a site image. */
-#define MP_IMAGE 2064
+#define METERPLAN_IMAGE 2064
 /* No table has more bits; no plan has more bytes. */
-#define MP_MOST_BITS 8192
-#define MP_MOST_METERS 48
+#define METERPLAN_MOST_BITS 8192
+#define METERPLAN_MOST_METERS 48
 
-/* Kinds; in brackets what the parameter is. */
-#define MP_CHANNELS 1 /* number of channels, 1..16 */
-#define MP_GROUPS 2   /* number of groups, 2..16 */
-#define MP_TREE 3     /* greatest number of neighbours, 1..47 */
+/* Kinds; beside each what its parameter is. */
+#define METERPLAN_CHANNELS 1 /* number of channels, 1..16 */
+#define METERPLAN_GROUPS 2   /* number of groups, 2..16 */
+#define METERPLAN_TREE 3     /* greatest number of neighbours, 1..47 */
 
-typedef struct { uint64_t refusal; int64_t value; } mp_number;
-typedef struct { uint64_t refusal; uint64_t weight; uint64_t repaired; } mp_plan;
+/* What is asked for. Name the fields of one that you make: later versions append fields, and one not named is 0. */
+typedef struct { uint64_t kind; uint64_t parameter; } meterplan_ask;
+/* What a call gives: all but the refusal is 0 where that is not 0. */
+typedef struct { uint64_t refusal; int64_t value; } meterplan_number;
+typedef struct { uint64_t refusal; uint64_t weight; uint64_t repaired; } meterplan_decoded;
 
 /* Makes the image one of that many meters with no links: whatever bytes it held before. */
-uint64_t mp_begin(uint8_t *image, size_t image_len, uint64_t meters);
+uint64_t meterplan_begin(uint8_t *image, size_t image_len, uint64_t meters);
 /* Adds or removes the link between u and v, either way round. */
-uint64_t mp_add(uint8_t *image, size_t image_len, uint64_t u, uint64_t v, uint16_t weight);
-uint64_t mp_remove(uint8_t *image, size_t image_len, uint64_t u, uint64_t v);
+uint64_t meterplan_add(uint8_t *image, size_t image_len, uint64_t u, uint64_t v, uint16_t weight);
+uint64_t meterplan_remove(uint8_t *image, size_t image_len, uint64_t u, uint64_t v);
 
 /* Of the table: its number of bits, its penalty A, its constant. Refused by 1, 7, 8. */
-mp_number mp_bits(const uint8_t *image, size_t image_len, uint64_t kind, uint64_t parameter);
-mp_number mp_penalty(const uint8_t *image, size_t image_len, uint64_t kind, uint64_t parameter);
-mp_number mp_constant(const uint8_t *image, size_t image_len, uint64_t kind, uint64_t parameter);
+meterplan_number meterplan_bits(const uint8_t *image, size_t image_len, meterplan_ask ask);
+meterplan_number meterplan_penalty(const uint8_t *image, size_t image_len, meterplan_ask ask);
+meterplan_number meterplan_constant(const uint8_t *image, size_t image_len, meterplan_ask ask);
 /* Row i, in the first bits - i numbers of out: that of bit i, then those of pairs (i, j) for j = i + 1 upward. The rest of
  * out is unaltered. */
-uint64_t mp_row(const uint8_t *image, size_t image_len, uint64_t kind, uint64_t parameter, uint64_t i, int64_t *out, size_t out_len);
+uint64_t meterplan_row(const uint8_t *image, size_t image_len, meterplan_ask ask, uint64_t i, int64_t *out, size_t out_len);
 
 /* The energy of an assignment: a byte for each bit, 0 or 1. */
-mp_number mp_energy(const uint8_t *image, size_t image_len, uint64_t kind, uint64_t parameter, const uint8_t *bits, size_t bits_len);
+meterplan_number meterplan_energy(const uint8_t *image, size_t image_len, meterplan_ask ask, const uint8_t *bits, size_t bits_len);
 /* The code of a plan, in bits, whatever these held. A plan is a byte for each meter: its channel, its group, or its parent
  * (0 for the root). */
-uint64_t mp_code(const uint8_t *image, size_t image_len, uint64_t kind, uint64_t parameter, const uint8_t *plan, size_t plan_len, uint8_t *bits, size_t bits_len);
+uint64_t meterplan_code(const uint8_t *image, size_t image_len, meterplan_ask ask, const uint8_t *plan, size_t plan_len, uint8_t *bits, size_t bits_len);
 /* The plan of an assignment, in plan; its weight, and how many meters had to be repaired (channels only). The weight is that
  * of links with both ends on one channel, of links between groups (each once; the energy has them twice), or of the tree. */
-mp_plan mp_decode(const uint8_t *image, size_t image_len, uint64_t kind, uint64_t parameter, const uint8_t *bits, size_t bits_len, uint8_t *plan, size_t plan_len);
+meterplan_decoded meterplan_decode(const uint8_t *image, size_t image_len, meterplan_ask ask, const uint8_t *bits, size_t bits_len, uint8_t *plan, size_t plan_len);
 
 #ifdef __cplusplus
 }

@@ -17,7 +17,9 @@ use Rattle.links.specs.Survey.{LinkOf, Survey}
 use Rattle.links.proofs.Altered.{link-of}
 use Rattle.qubo.proofs.Families.{sumOver}
 use Rattle.arcs.specs.Arcs.{Arc, arcsFrom, arcs}
-use Rattle.arcs.specs.Lent.{Lent}
+use Rattle.arcs.specs.Inner.{WithDepths, WithPlace, weightIn}
+use Rattle.arcs.specs.declared.layout.Place.{Place}
+use Rattle.arcs.specs.declared.layout.Place.the-variants.{OfDepth, OfArc, Behind}
 
 -- the arc of a link from u to v, and the one back, with their numbers
 abbrev pub there : ℕ → Link → Arc
@@ -99,8 +101,14 @@ unfolding arcs
 arc-of N ls s = of-from N 0 ls (s .each)
 
 -- so is each of an accepted site's links
-pub lent-arc : (N D : ℕ) (us vs ws : List ℕ) → Lent N D us vs ws → (a : Arc) → List·Memᴰ a (arcs (linksOf us vs ws)) → ArcOf N a
+pub lent-arc : (N D : ℕ) (us vs ws : List ℕ) → WithDepths N D us vs ws → (a : Arc) → List·Memᴰ a (arcs (linksOf us vs ws)) → ArcOf N a
 lent-arc N D us vs ws lent = arc-of N (linksOf us vs ws) (lent .arrays .survey)
+
+-- and the weight at the place of a bit is one of theirs, or 0
+pub weight-few : (N D : ℕ) (us vs : List ℕ) (i : ℕ) (q : Place) → WithPlace N D us vs i q → weightIn q ≤ 65535
+weight-few N D us vs i (OfDepth v t) w = omega arith
+weight-few N D us vs i (OfArc k u v x t) w = lent-arc N D us vs (w .weights) (w .lent) _ (w .place .among) .weight-high
+weight-few N D us vs i Behind w = omega arith
 
 -- ---- sums over the arcs in which at most one has a part
 

@@ -8,6 +8,7 @@ use borrow.Author.Tests.{eq-eqb, ne-eqb, le-leb, lt-leb}
 use lib.Dec.{eqb, leb}
 use lib.ListN.{length, getD}
 use lib.IntN.{ℤ}
+use Rattle.lists.specs.Sums.{sumOf}
 use Rattle.links.specs.Links.{linkIn, linksFrom, linksOf}
 use Rattle.links.proofs.Walk.{arrays-few}
 use Rattle.qubo.specs.Formula.{Formula}
@@ -17,8 +18,7 @@ use Rattle.qubo.proofs.RowAction.{add-none, add-append, room-front, room-back}
 use Rattle.qubo.proofs.RowTerms.{pair-below}
 use Rattle.qubo.proofs.RowWalk.{Walked, walked-first, walked-room, walked-turn, walked-end}
 use Rattle.arcs.specs.Arcs.{Arc, arcsFrom, arcs, arcBit, arcsEnd}
-use Rattle.arcs.specs.Lent.{Lent, Row}
-use Rattle.arcs.specs.Walks.{pairAt, pairsInto, pairsWithin, arcsBetween, Walk}
+use Rattle.arcs.specs.Inner.{WithDepths, Row, pairAt, pairsInto, pairsWithin, arcsBetween, Walk}
 use Rattle.arcs.proofs.ArcLists.{arcUp, arcBack, arcsLeft, arcs-start, arcs-turn, arcs-end}
 use Rattle.arcs.proofs.BitsApart.{arc-below}
 
@@ -136,7 +136,7 @@ pub walk-on : (N D i : ℕ) (tails heads : List ℕ) (r s : List ℤ) → length
 walk-on N D i tails heads r s e w = record { own = omega (arith, w .own); even = w .even; few = w .few; meters = w .meters; deep = w .deep; inside = omega (arith, w .inside) }
 
 -- either way
-module _ (N D A : ℕ) (us vs ws : List ℕ) (i : ℕ) (r : List ℤ) (lent : Lent N D us vs ws) (row : Row (2 ^ 59) N D A (length us) i r) where
+module _ (N D A : ℕ) (us vs ws : List ℕ) (i : ℕ) (r : List ℤ) (lent : WithDepths N D us vs ws) (row : Row (2 ^ 59) N D A (length us) i r) where
   pub walk-into : Walk N D i us vs r
   walk-into = record { own = row .own; even = lent .arrays .same-v; few = arrays-few N us vs ws (lent .arrays); meters = lent .arrays .survey .meters-high; deep = lent .deep; inside = row .inside }
 
@@ -175,23 +175,35 @@ module _ (q : ℤ) (i N D v t : ℕ) (ks : List Arc) where
 
 -- ---- the arcs of the links, by their ends alone
 
-module _ {B : Type 0} (G : ℕ → ℕ → List B) (us vs ws : List ℕ) where
-  child-from : (n j k : ℕ) → over (arcsFrom j (linksFrom us vs ws k n)) (λ a. G (a .number) (a .child)) ≡ over (arcsFrom j (linksFrom us vs [] k n)) (λ a. G (a .number) (a .child))
-  unfolding arcsFrom linksFrom linkIn
-  child-from zero j k = refl
-  child-from (suc n) j k = ap (λ (l : List B). G j (getD vs k 0) ++ (G (suc j) (getD us k 0) ++ l)) (child-from n (suc (suc j)) (suc k))
+module _ (f : ℕ → ℕ → ℕ → ℕ) (us vs ws xs : List ℕ) where
+  sum-from : (n j k : ℕ) → sumOf (arcsFrom j (linksFrom us vs ws k n)) (λ a. f (a .number) (a .parent) (a .child)) ≡ sumOf (arcsFrom j (linksFrom us vs xs k n)) (λ a. f (a .number) (a .parent) (a .child))
+  unfolding sumOf arcsFrom linksFrom linkIn
+  sum-from zero j k = refl
+  sum-from (suc n) j k = ap (λ (t : ℕ). f j (getD us k 0) (getD vs k 0) + (f (suc j) (getD vs k 0) (getD us k 0) + t)) (sum-from n (suc (suc j)) (suc k))
 
-  -- by number and child
-  pub by-child : over (arcs (linksOf us vs ws)) (λ a. G (a .number) (a .child)) ≡ over (arcsBetween us vs) (λ a. G (a .number) (a .child))
+  -- what they give by number, parent and child adds up to the same with all weights
+  pub sum-by-ends : sumOf (arcs (linksOf us vs ws)) (λ a. f (a .number) (a .parent) (a .child)) ≡ sumOf (arcs (linksOf us vs xs)) (λ a. f (a .number) (a .parent) (a .child))
   unfolding arcs linksOf
-  by-child = child-from (length us) 0 0
+  sum-by-ends = sum-from (length us) 0 0
 
-  parent-from : (n j k : ℕ) → over (arcsFrom j (linksFrom us vs ws k n)) (λ a. G (a .number) (a .parent)) ≡ over (arcsFrom j (linksFrom vs us [] k n)) (λ a. G (a .number) (a .child))
+module _ {B : Type 0} (us vs ws : List ℕ) where
+  ends-from : (G : ℕ → ℕ → ℕ → List B) (xs : List ℕ) (n j k : ℕ)
+      → over (arcsFrom j (linksFrom us vs ws k n)) (λ a. G (a .number) (a .parent) (a .child)) ≡ over (arcsFrom j (linksFrom us vs xs k n)) (λ a. G (a .number) (a .parent) (a .child))
   unfolding arcsFrom linksFrom linkIn
-  parent-from zero j k = refl
-  parent-from (suc n) j k = ap (λ (l : List B). G j (getD us k 0) ++ (G (suc j) (getD vs k 0) ++ l)) (parent-from n (suc (suc j)) (suc k))
+  ends-from G xs zero j k = refl
+  ends-from G xs (suc n) j k = ap (λ (l : List B). G j (getD us k 0) (getD vs k 0) ++ (G (suc j) (getD vs k 0) (getD us k 0) ++ l)) (ends-from G xs n (suc (suc j)) (suc k))
+
+  -- and lists that they give join to the same
+  pub by-ends : (G : ℕ → ℕ → ℕ → List B) (xs : List ℕ) → over (arcs (linksOf us vs ws)) (λ a. G (a .number) (a .parent) (a .child)) ≡ over (arcs (linksOf us vs xs)) (λ a. G (a .number) (a .parent) (a .child))
+  unfolding arcs linksOf
+  by-ends G xs = ends-from G xs (length us) 0 0
+
+  parent-from : (G : ℕ → ℕ → List B) (n j k : ℕ) → over (arcsFrom j (linksFrom us vs ws k n)) (λ a. G (a .number) (a .parent)) ≡ over (arcsFrom j (linksFrom vs us [] k n)) (λ a. G (a .number) (a .child))
+  unfolding arcsFrom linksFrom linkIn
+  parent-from G zero j k = refl
+  parent-from G (suc n) j k = ap (λ (l : List B). G j (getD us k 0) ++ (G (suc j) (getD vs k 0) ++ l)) (parent-from G n (suc (suc j)) (suc k))
 
   -- by number and parent: the children, with tails and heads swapped
-  pub by-parent : length vs ≡ length us → over (arcs (linksOf us vs ws)) (λ a. G (a .number) (a .parent)) ≡ over (arcsBetween vs us) (λ a. G (a .number) (a .child))
+  pub by-parent : (G : ℕ → ℕ → List B) → length vs ≡ length us → over (arcs (linksOf us vs ws)) (λ a. G (a .number) (a .parent)) ≡ over (arcsBetween vs us) (λ a. G (a .number) (a .child))
   unfolding arcs linksOf
-  by-parent e = parent-from (length us) 0 0 ∙ ap (λ (n : ℕ). over (arcsFrom 0 (linksFrom vs us [] 0 n)) (λ a. G (a .number) (a .child))) (sym e)
+  by-parent G e = parent-from G (length us) 0 0 ∙ ap (λ (n : ℕ). over (arcsFrom 0 (linksFrom vs us [] 0 n)) (λ a. G (a .number) (a .child))) (sym e)

@@ -8,19 +8,17 @@ use borrow.Author.Tests.{eq-eqb, ne-eqb}
 use lib.ListN.{length}
 use lib.IntN.{ℤ, pos, negsuc, _-ℤ_, _*ℤ_}
 use Rattle.links.specs.Links.{Link, linksOf}
-use Rattle.qubo.specs.Formula.{Formula, product}
+use Rattle.qubo.specs.Formula.{Term, Formula, product}
 use Rattle.qubo.specs.Terms.{eachOf, each, over, bit, single, pair}
 use Rattle.qubo.specs.Rows.{addTerms}
 use Rattle.qubo.proofs.Ring.{var, con, _⊖_, _⊗_, solve}
 use Rattle.qubo.proofs.RowAction.{add-none, add-append, Absent, add-absent, absent-eachOf, add-only, each-nothing}
 use Rattle.qubo.proofs.RowTerms.{single-absent, pair-absent, pair-nothing, product-swap, product-split, product-entry, product-constant}
-use Rattle.arcs.specs.Arcs.{Arc, arcs, depthBit, arcBit, arcsEnd}
+use Rattle.arcs.specs.Arcs.{Arc, arcs, depthBit, depthsEnd, arcBit, arcsEnd}
 use Rattle.arcs.specs.Formula.{endsMissing, endTerms, weightTerms}
-use Rattle.arcs.specs.Lent.{Lent}
-use Rattle.arcs.specs.Places.{IsDepth, IsArc}
-use Rattle.arcs.specs.Walks.{pairAt, pairsInto, pairsWithin, arcsBetween}
+use Rattle.arcs.specs.Inner.{WithDepths, IsDepth, IsArc, pairAt, pairsInto, pairsWithin, arcsBetween}
 use Rattle.arcs.proofs.ArcLists.{arc-high, ArcOf, lent-arc}
-use Rattle.arcs.proofs.ArcWalk.{by-child, by-parent, within-yes, within-zero, within-deep, within-none}
+use Rattle.arcs.proofs.ArcWalk.{by-ends, by-parent, within-yes, within-zero, within-deep, within-none}
 use Rattle.arcs.proofs.Alike.{Alike, alike-append, alike-over, alike-each, over-nothing, over-split, each-split, arc-only}
 use Rattle.arcs.proofs.BitsApart.{depth-below, depth-meter, depth-depth, arc-above, arc-below, arc-number, arc-depth}
 
@@ -141,27 +139,34 @@ module _ (A N D : ℕ) (i : ℕ) where
 
 -- ---- add_weights, by the place of bit i
 
-module _ (N D : ℕ) (us vs ws : List ℕ) (i : ℕ) (r : List ℤ) where
-  pub arc-weight-row : (a : Arc) (t : ℕ) → IsArc N D (linksOf us vs ws) i a t → (s : List ℤ) → s ≡ addTerms (single (pos (a .weight)) i ∷ []) i r → s ≡ addTerms (weightTerms N D (arcs (linksOf us vs ws))) i r
+module _ (N D : ℕ) (ls : List Link) (i : ℕ) (r : List ℤ) where
+  pub arc-weight-row : (a : Arc) (t : ℕ) → IsArc N D ls i a t → (s : List ℤ) → s ≡ addTerms (single (pos (a .weight)) i ∷ []) i r → s ≡ addTerms (weightTerms N D (arcs ls)) i r
   unfolding weightTerms
-  arc-weight-row a t is s e = e ∙ sym (singles-own (λ b. pos (b .weight)) N D (linksOf us vs ws) i a t is r)
+  arc-weight-row a t is s e = e ∙ sym (singles-own (λ b. pos (b .weight)) N D ls i a t is r)
 
-  pub behind-weight-row : arcsEnd N D (length (linksOf us vs ws)) ≤ i → r ≡ addTerms (weightTerms N D (arcs (linksOf us vs ws))) i r
+  pub behind-weight-row : arcsEnd N D (length ls) ≤ i → r ≡ addTerms (weightTerms N D (arcs ls)) i r
   unfolding weightTerms
-  behind-weight-row h = sym (behind-singles (λ b. pos (b .weight)) N D (linksOf us vs ws) i h r)
+  behind-weight-row h = sym (behind-singles (λ b. pos (b .weight)) N D ls i h r)
 
-  pub depth-weight-row : (v t : ℕ) → IsDepth N D i v t → r ≡ addTerms (weightTerms N D (arcs (linksOf us vs ws))) i r
+  pub depth-weight-row : (v t : ℕ) → IsDepth N D i v t → r ≡ addTerms (weightTerms N D (arcs ls)) i r
   unfolding weightTerms
-  depth-weight-row v t is = sym (depth-singles (λ b. pos (b .weight)) N D (arcs (linksOf us vs ws)) i v t is r)
+  depth-weight-row v t is = sym (depth-singles (λ b. pos (b .weight)) N D (arcs ls) i v t is r)
 
 -- ---- add_ends, by the place of bit i
 
-module _ (A N D : ℕ) (us vs ws : List ℕ) (lent : Lent N D us vs ws) where
+module _ (A N D : ℕ) (us vs ws : List ℕ) (lent : WithDepths N D us vs ws) where
   abbrev ks : List Arc
   ks = arcs (linksOf us vs ws)
 
   ends-of : (a : Arc) → List·Memᴰ a (arcs (linksOf us vs ws)) → ArcOf N a
   ends-of = lent-arc N D us vs ws lent
+
+  -- the weights of the links have no part in these terms: what is added with some is added with any
+  pub ends-any : (i : ℕ) (r s : List ℤ) → s ≡ addTerms (endTerms A N D (arcs (linksOf us vs ws))) i r → (xs : List ℕ) → s ≡ addTerms (endTerms A N D (arcs (linksOf us vs xs))) i r
+  unfolding endTerms
+  ends-any i r s e xs =
+      let term : ℕ → ℕ → ℕ → ℕ → Term = λ k u v t. product (pos A) (bit (depthsEnd N D + k * D + pred t)) (record { constant = pos 2; entries = (depthBit D u (pred t), negsuc 0) ∷ (depthBit D v t, negsuc 0) ∷ [] }) in
+      e ∙ ap (λ (f : Formula). addTerms f i r) (by-ends us vs ws (λ k u v. each D (term k u v)) xs)
 
   -- what the singles and the two families of pairs come to
   ends-are : (i : ℕ) (r s : List ℤ) → addTerms (touches (pos 0 -ℤ pos A) N D (λ a. a .child) (λ t. t) ks) i (addTerms (touches (pos 0 -ℤ pos A) N D (λ a. a .parent) pred ks) i (addTerms (singles (λ a. pos (2 * A)) N D ks) i r)) ≡ s → s ≡ addTerms (endTerms A N D ks) i r
@@ -195,7 +200,7 @@ module _ (A N D : ℕ) (us vs ws : List ℕ) (lent : Lent N D us vs ws) where
     unfolding pairsInto
     out-row r = elim (decLe (t + 1) D) [
       | yes h ↦ touches-at (pos 0 -ℤ pos A) N D (λ a. a .parent) pred ks (λ a m. ends-of a m .parent-low) (λ s d. omega arith) i v t is (t + 1) (omega arith) h (omega arith) (λ s l e. omega arith) r
-          ∙ ap (λ (f : Formula). addTerms f i r) (by-parent (λ k m. pairAt (pos 0 -ℤ pos A) i (N * suc D + k * D + pred (t + 1)) m v) us vs ws (lent .arrays .same-v) ∙ sym (within-yes (pos 0 -ℤ pos A) i N D v (t + 1) (arcsBetween vs us) (omega arith) h))
+          ∙ ap (λ (f : Formula). addTerms f i r) (by-parent us vs ws (λ k m. pairAt (pos 0 -ℤ pos A) i (N * suc D + k * D + pred (t + 1)) m v) (lent .arrays .same-v) ∙ sym (within-yes (pos 0 -ℤ pos A) i N D v (t + 1) (arcsBetween vs us) (omega arith) h))
       | no h ↦ touches-none (pos 0 -ℤ pos A) N D (λ a. a .parent) pred ks (λ a m. ends-of a m .parent-low) (λ s d. omega arith) i v t is (λ s l d e. h (omega arith)) r
           ∙ within-none (pos 0 -ℤ pos A) i N D v (t + 1) (arcsBetween vs us) r (within-deep (pos 0 -ℤ pos A) i N D v (t + 1) (arcsBetween vs us) (omega arith))
     ]
@@ -205,7 +210,7 @@ module _ (A N D : ℕ) (us vs ws : List ℕ) (lent : Lent N D us vs ws) where
     unfolding pairsInto
     in-row r = elim (decLe 1 t) [
       | yes h ↦ touches-at (pos 0 -ℤ pos A) N D (λ a. a .child) (λ s. s) ks (λ a m. ends-of a m .child-low) (λ s d. d) i v t is t h (is .deep) refl (λ s l e. e) r
-          ∙ ap (λ (f : Formula). addTerms f i r) (by-child (λ k m. pairAt (pos 0 -ℤ pos A) i (N * suc D + k * D + pred t) m v) us vs ws ∙ sym (within-yes (pos 0 -ℤ pos A) i N D v t (arcsBetween us vs) h (is .deep)))
+          ∙ ap (λ (f : Formula). addTerms f i r) (by-ends us vs ws (λ k u m. pairAt (pos 0 -ℤ pos A) i (N * suc D + k * D + pred t) m v) [] ∙ sym (within-yes (pos 0 -ℤ pos A) i N D v t (arcsBetween us vs) h (is .deep)))
       | no h ↦ touches-none (pos 0 -ℤ pos A) N D (λ a. a .child) (λ s. s) ks (λ a m. ends-of a m .child-low) (λ s d. d) i v t is (λ s l d e. h (omega arith)) r
           ∙ within-none (pos 0 -ℤ pos A) i N D v t (arcsBetween us vs) r (within-zero (pos 0 -ℤ pos A) i N D v t (arcsBetween us vs) (omega arith))
     ]

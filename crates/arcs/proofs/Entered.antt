@@ -11,15 +11,14 @@ use Rattle.lists.specs.Sums.{sumTo, same, gap}
 use Rattle.lists.proofs.Sums.{same-yes, same-no, same-le, sumTo-eq, sumOf-le, times-bit}
 use Rattle.lists.proofs.Stores.{added-here, added-elsewhere}
 use Rattle.links.specs.Links.{Link, linksOf}
-use Rattle.links.specs.Survey.{Survey}
+use Rattle.links.specs.Survey.{Survey, Ends}
 use Rattle.links.proofs.Degree.{degree-few}
-use Rattle.links.proofs.Walk.{link-at, arrays-few}
+use Rattle.links.proofs.Walk.{ends-at, few-links}
 use Rattle.qubo.specs.Formula.{Bits}
 use Rattle.onehot.proofs.Parts.{part-within}
 use Rattle.arcs.specs.Arcs.{Arc, arcs, depthBit, arcBit, arcsEnd, depthAt, arcAt}
 use Rattle.arcs.specs.Sums.{entriesOf, entryGaps}
-use Rattle.arcs.specs.Lent.{Lent}
-use Rattle.arcs.specs.Walks.{linkSet, LinkFits, LinkAdded}
+use Rattle.arcs.specs.Inner.{linkSet, LinkFits, LinkAdded}
 use Rattle.arcs.proofs.Bound.{arcs-into}
 use Rattle.arcs.proofs.ArcLists.{arcUp, arcBack}
 use Rattle.arcs.proofs.LinkBits.{links-within, none-set}
@@ -60,23 +59,23 @@ apart D zero c i a b h = absurd (omega arith)
 apart D (suc v) zero i a b h = absurd (omega arith)
 apart D (suc v) (suc c) i a b h = omega (arith, part-within (suc D) v c (omega arith))
 
-module _ (N D q c : ℕ) (x s : List ℕ) (few : N ≤ 48) (deep : D ≤ 24) (low : 1 ≤ c) (high : c ≤ N) (fits : N * suc D + q * D + D ≤ length x) (size : length s ≡ 1200) (f a : ℕ) (first : f ≡ depthBit D c 0) (start : a ≡ N * suc D + q * D) where
-  inside : f + 1 + D ≤ length s
+module _ (N D q c : ℕ) (x s : List ℕ) (few : N ≤ 48) (deep : D ≤ 24) (low : 1 ≤ c) (high : c ≤ N) (fits : N * suc D + q * D + D ≤ length x) (size : length s ≡ 1200) (f a : ℕ) (first : f ≡ depthBit D c 1) (start : a ≡ N * suc D + q * D) where
+  inside : f + D ≤ length s
   inside = omega (arith, meter-within D c N low high, depths-few N D few deep)
 
   -- the arc's bits and its child's places from depth 1 on
   bits-length : length (slice x a (a + D)) ≡ D
   bits-length = slice-length x a (a + D) D refl (omega arith)
 
-  places-length : length (slice s (f + 1) (f + 1 + D)) ≡ D
-  places-length = slice-length s (f + 1) (f + 1 + D) D refl inside
+  places-length : length (slice s f (f + D)) ≡ D
+  places-length = slice-length s f (f + D) D refl inside
 
-  place : (j : ℕ) → j < D → getD (slice s (f + 1) (f + 1 + D)) j 0 ≡ getD s (depthBit D c (j + 1)) 0
-  place j h = let d : f + 1 + j ≡ depthBit D c (j + 1) = omega arith in rw (slice-at s (f + 1) (f + 1 + D) D refl inside j h, d) refl
+  place : (j : ℕ) → j < D → getD (slice s f (f + D)) j 0 ≡ getD s (depthBit D c (j + 1)) 0
+  place j h = let d : f + j ≡ depthBit D c (j + 1) = omega arith in rw (slice-at s f (f + D) D refl inside j h, d) refl
 
   -- what add_bits asks
   pub entry-room : Bits x → ((i : ℕ) → 1 ≤ i → i ≤ D → getD s (depthBit D c i) 0 < 255)
-      → (length (slice x a (a + D)) ≡ length (slice s (f + 1) (f + 1 + D))) × Bits (slice x a (a + D)) × ((i : ℕ) → i < length (slice s (f + 1) (f + 1 + D)) → getD (slice s (f + 1) (f + 1 + D)) i 0 < 255)
+      → (length (slice x a (a + D)) ≡ length (slice s f (f + D))) × Bits (slice x a (a + D)) × ((i : ℕ) → i < length (slice s f (f + D)) → getD (slice s f (f + D)) i 0 < 255)
   entry-room b l = (
     bits-length ∙ sym places-length,
     slice-bits x a (a + D) D refl (omega arith) b,
@@ -84,38 +83,38 @@ module _ (N D q c : ℕ) (x s : List ℕ) (few : N ≤ 48) (deep : D ≤ 24) (lo
   )
 
   -- what it leaves in the places, put back
-  module _ (y : List ℕ) (added : (length y ≡ length (slice s (f + 1) (f + 1 + D))) × ((i : ℕ) → i < length (slice s (f + 1) (f + 1 + D)) → getD y i 0 ≡ getD (slice s (f + 1) (f + 1 + D)) i 0 + getD (slice x a (a + D)) i 0)) where
+  module _ (y : List ℕ) (added : (length y ≡ length (slice s f (f + D))) × ((i : ℕ) → i < length (slice s f (f + D)) → getD y i 0 ≡ getD (slice s f (f + D)) i 0 + getD (slice x a (a + D)) i 0)) where
     y-length : length y ≡ D
     y-length = added .0 ∙ places-length
 
-    own : (j : ℕ) → j < D → getD (putMid (f + 1) (f + 1 + D - (f + 1)) s y) (f + 1 + j) 0 ≡ getD s (depthBit D c (j + 1)) 0 + getD x (a + j) 0
+    own : (j : ℕ) → j < D → getD (putMid f (f + D - f) s y) (f + j) 0 ≡ getD s (depthBit D c (j + 1)) 0 + getD x (a + j) 0
     own j h =
         omega (
           arith,
-          put-inside s (f + 1) (f + 1 + D) D refl inside y y-length j h,
+          put-inside s f (f + D) D refl inside y y-length j h,
           added .1 j (omega (arith, places-length)),
           place j h,
           slice-at x a (a + D) D refl (omega arith) j h,
         )
 
     -- at the child, and at another meter
-    here : (i : ℕ) → 1 ≤ i → i ≤ D → getD (putMid (f + 1) (f + 1 + D - (f + 1)) s y) (depthBit D c i) 0 ≡ getD s (depthBit D c i) 0 + getD x (N * suc D + q * D + pred i) 0
+    here : (i : ℕ) → 1 ≤ i → i ≤ D → getD (putMid f (f + D - f) s y) (depthBit D c i) 0 ≡ getD s (depthBit D c i) 0 + getD x (N * suc D + q * D + pred i) 0
     here zero p h = absurd (omega arith)
     here (suc j) p h =
-        let d : depthBit D c (suc j) ≡ f + 1 + j = omega arith in
+        let d : depthBit D c (suc j) ≡ f + j = omega arith in
         let e : depthBit D c (suc j) ≡ depthBit D c (j + 1) = omega arith in
-        ap (λ (k : ℕ). getD (putMid (f + 1) (f + 1 + D - (f + 1)) s y) k 0) d ∙ own j h ∙ rw (← e, start) refl
+        ap (λ (k : ℕ). getD (putMid f (f + D - f) s y) k 0) d ∙ own j h ∙ rw (← e, start) refl
 
-    elsewhere : (v i : ℕ) → 1 ≤ v → i ≤ D → (c ≡ v → ⊥) → getD (putMid (f + 1) (f + 1 + D - (f + 1)) s y) (depthBit D v i) 0 ≡ getD s (depthBit D v i) 0
+    elsewhere : (v i : ℕ) → 1 ≤ v → i ≤ D → (c ≡ v → ⊥) → getD (putMid f (f + D - f) s y) (depthBit D v i) 0 ≡ getD s (depthBit D v i) 0
     elsewhere v i p h e =
         elim (decLt v c) [
-          | yes l ↦ put-before s (f + 1) (f + 1 + D) D refl inside y y-length (depthBit D v i) (omega (arith, apart D v c i p l h))
-          | no l ↦ put-after s (f + 1) (f + 1 + D) D refl inside y y-length (depthBit D v i) (omega (arith, apart D c v D low (omega arith) (omega arith)))
+          | yes l ↦ put-before s f (f + D) D refl inside y y-length (depthBit D v i) (omega (arith, apart D v c i p l h))
+          | no l ↦ put-after s f (f + D) D refl inside y y-length (depthBit D v i) (omega (arith, apart D c v D low (omega arith) (omega arith)))
         ]
 
-    pub entry-added : EntryAdded N D x q c s (putMid (f + 1) (f + 1 + D - (f + 1)) s y)
+    pub entry-added : EntryAdded N D x q c s (putMid f (f + D - f) s y)
     entry-added = (
-      put-length s (f + 1) (f + 1 + D) D refl inside y y-length ∙ size,
+      put-length s f (f + D) D refl inside y y-length ∙ size,
       λ v i p h l. elim (ℕ-discrete c v) [
         | yes e ↦ rw (same-yes c v e, one-mul, ← e) (here i h l)
         | no e ↦ rw (same-no c v e, zero-mul, add-zero) (elsewhere v i p l e)
@@ -181,20 +180,27 @@ pub enters : ℕ → ℕ → List ℕ → ℕ → ℕ → Arc → ℕ
 enters N D x v i a = same (a .child) v * arcAt N D x a i
 
 -- in each place stands how many of them lead there
-pub record EnteredTo (N D : ℕ) (x us vs ws : List ℕ) (k : ℕ) (counts : List ℕ) : Type 0 where
+pub record EnteredTo (N D : ℕ) (x us vs : List ℕ) (k : ℕ) (counts : List ℕ) : Type 0 where
   pub size : length counts ≡ 1200
-  pub so-far : (v i : ℕ) → 1 ≤ v → 1 ≤ i → i ≤ D → ArcsSummed us vs ws (enters N D x v i) k (getD counts (depthBit D v i) 0)
+  pub so-far : (ws : List ℕ) (v i : ℕ) → 1 ≤ v → 1 ≤ i → i ≤ D → ArcsSummed us vs ws (enters N D x v i) k (getD counts (depthBit D v i) 0)
 
-module _ (N D : ℕ) (x us vs ws : List ℕ) where
-  pub entered-start : (s : List ℕ) → length s ≡ 1200 → ((i : ℕ) → getD s i 0 ≡ 0) → EnteredTo N D x us vs ws 0 s
+module _ (N D : ℕ) (x us vs : List ℕ) where
+  pub entered-start : (s : List ℕ) → length s ≡ 1200 → ((i : ℕ) → getD s i 0 ≡ 0) → EnteredTo N D x us vs 0 s
   entered-start s e z = record {
     size = e;
-    so-far = λ v i a p h. rw (z (depthBit D v i)) (summed-start us vs ws (enters N D x v i));
+    so-far = λ ws v i a p h. rw (z (depthBit D v i)) (summed-start us vs ws (enters N D x v i));
   }
 
-  pub entered-end : (k : ℕ) (s : List ℕ) → EnteredTo N D x us vs ws k s → length us ≤ k → (v i : ℕ) → 1 ≤ v → 1 ≤ i → i ≤ D → getD s (depthBit D v i) 0 ≡ entriesOf (arcs (linksOf us vs ws)) (arcAt N D x) v i
+  pub entered-turn : (k : ℕ) → k < length us → (s : List ℕ) → EnteredTo N D x us vs k s → (r : List ℕ) → LinkAdded N D x k (getD us k 0) (getD vs k 0) s r → EnteredTo N D x us vs (k + 1) r
+  unfolding enters arcAt
+  entered-turn k h s g r added = record {
+    size = added .size;
+    so-far = λ ws v i a p l. rw (added .each v i a p l) (summed-turn us vs ws (enters N D x v i) k (getD s (depthBit D v i) 0) (g .so-far ws v i a p l) (enters N D x v i (arcUp us vs ws k) + enters N D x v i (arcBack us vs ws k)) h refl);
+  }
+
+  pub entered-end : (k : ℕ) (s : List ℕ) → EnteredTo N D x us vs k s → length us ≤ k → (ws : List ℕ) (v i : ℕ) → 1 ≤ v → 1 ≤ i → i ≤ D → getD s (depthBit D v i) 0 ≡ entriesOf (arcs (linksOf us vs ws)) (arcAt N D x) v i
   unfolding enters entriesOf
-  entered-end k s g h v i a p l = summed-end us vs ws (enters N D x v i) k (getD s (depthBit D v i) 0) (g .so-far v i a p l) h
+  entered-end k s g h ws v i a p l = summed-end us vs ws (enters N D x v i) k (getD s (depthBit D v i) 0) (g .so-far ws v i a p l) h
 
 -- at most 47 arcs lead into a meter
 pub entries-few : (N D : ℕ) (ls : List Link) (x : List ℕ) → Survey N ls → Bits x → (v i : ℕ) → entriesOf (arcs ls) (arcAt N D x) v i ≤ 47
@@ -208,35 +214,28 @@ entries-few N D ls x s b v i =
     )
 
 -- so at most 47 of them are counted at any time
-entered-few : (N D : ℕ) (x us vs ws : List ℕ) → Survey N (linksOf us vs ws) → Bits x → (k : ℕ) (s : List ℕ) → EnteredTo N D x us vs ws k s → (v i : ℕ) → 1 ≤ v → 1 ≤ i → i ≤ D → getD s (depthBit D v i) 0 ≤ 47
+entered-few : (N D : ℕ) (x us vs ws : List ℕ) → Survey N (linksOf us vs ws) → Bits x → (k : ℕ) (s : List ℕ) → EnteredTo N D x us vs k s → (v i : ℕ) → 1 ≤ v → 1 ≤ i → i ≤ D → getD s (depthBit D v i) 0 ≤ 47
 unfolding enters entriesOf
-entered-few N D x us vs ws y b k s g v i a p l = omega (arith, g .so-far v i a p l .whole, entries-few N D (linksOf us vs ws) x y b v i)
+entered-few N D x us vs ws y b k s g v i a p l = omega (arith, g .so-far ws v i a p l .whole, entries-few N D (linksOf us vs ws) x y b v i)
 
-module _ (N D : ℕ) (x us vs ws : List ℕ) (lent : Lent N D us vs ws) (b : Bits x) (fits : arcsEnd N D (length us) ≤ length x) (k : ℕ) (h : k < length us) (s : List ℕ) (g : EnteredTo N D x us vs ws k s) where
-  -- what add_link asks
-  pub entered-room : LinkFits N D x k (getD us k 0) (getD vs k 0) s
-  entered-room =
-      let l = link-at N us vs ws (lent .arrays) k h in
-      record {
-        meters = lent .arrays .survey .meters-high;
-        deep = lent .deep;
-        few = omega (arith, arrays-few N us vs ws (lent .arrays));
-        u-low = l .0;
-        u-high = omega (arith, l);
-        v-low = omega (arith, l);
-        v-high = l .2;
-        bits = b;
-        inside = links-within N D (length us) k (length x) h fits;
-        size = g .size;
-        small = entered-few N D x us vs ws (lent .arrays .survey) b k s g;
-      }
-
-  pub entered-turn : (r : List ℕ) → LinkAdded N D x k (getD us k 0) (getD vs k 0) s r → EnteredTo N D x us vs ws (k + 1) r
-  unfolding enters arcAt
-  entered-turn r added = record {
-    size = added .size;
-    so-far = λ v i a p l. rw (added .each v i a p l) (summed-turn us vs ws (enters N D x v i) k (getD s (depthBit D v i) 0) (g .so-far v i a p l) (enters N D x v i (arcUp us vs ws k) + enters N D x v i (arcBack us vs ws k)) h refl);
-  }
+-- what add_link asks
+pub entered-room : (N D : ℕ) (x us vs : List ℕ) → Ends N us vs → D ≤ 24 → Bits x → arcsEnd N D (length us) ≤ length x → (k : ℕ) → k < length us → (s : List ℕ) → EnteredTo N D x us vs k s → LinkFits N D x k (getD us k 0) (getD vs k 0) s
+entered-room N D x us vs ends deep b fits k h s g =
+    let a = ends .arrays in
+    let l = ends-at N us vs ends k h in
+    record {
+      meters = a .survey .meters-high;
+      deep = deep;
+      few = omega (arith, few-links N us vs ends);
+      u-low = l .0;
+      u-high = omega (arith, l);
+      v-low = omega (arith, l);
+      v-high = l .2;
+      bits = b;
+      inside = links-within N D (length us) k (length x) h fits;
+      size = g .size;
+      small = entered-few N D x us vs (ends .weights) (a .survey) b k s g;
+    }
 
 -- ---- entry_gaps: counts that are the arcs into each meter at each depth
 

@@ -1,6 +1,6 @@
 -- What the terms "its depth-i bit - depth-i arcs into it" add to row i: a depth bit and an arc bit each stand in the term of one meter and one depth, with the coefficient 1 or -1. Assumes nothing.
 use Prim.Native.Nat.{ℕ, suc, pred, _+_, _*_, _/_, _≤_, _<_}
-use mathlib.Core.Path.{_≡_, refl, sym, ap, ap₂, _∙_}
+use mathlib.Core.Path.{_≡_, refl, sym, ap, ap₂, _∙_, fun-ext}
 use mathlib.Core.Bool.{Bool, true, false, cond}
 use mathlib.Core.List.{List, [], _∷_, List·Memᴰ}
 use native.Mathlib.Omega.{arith}
@@ -21,13 +21,11 @@ use Rattle.qubo.proofs.Families.{sumOver, coef-append}
 use Rattle.qubo.proofs.TableValue.{only-same, only-other}
 use Rattle.qubo.proofs.RowAction.{add-none, add-append, add-two, add-absent, absent-eachOf, add-only}
 use Rattle.qubo.proofs.RowTerms.{own, square-absent, square-row, product-split, product-empty, product-entry}
-use Rattle.arcs.specs.Arcs.{Arc, arcs, depthBit, arcBit, arcsEnd}
+use Rattle.arcs.specs.Arcs.{Arc, arcs, depthBit, depthsEnd, arcBit, arcsEnd}
 use Rattle.arcs.specs.Formula.{entering, entryTerm, entryTerms}
-use Rattle.arcs.specs.Lent.{Lent}
-use Rattle.arcs.specs.Places.{IsDepth, IsArc}
-use Rattle.arcs.specs.Walks.{pairAt, pairsInto, arcsBetween, Held}
+use Rattle.arcs.specs.Inner.{WithDepths, IsDepth, IsArc, pairAt, pairsInto, arcsBetween, Held}
 use Rattle.arcs.proofs.ArcLists.{sumOver-none, sumOver-arc, arc-high, ArcOf, lent-arc}
-use Rattle.arcs.proofs.ArcWalk.{by-child}
+use Rattle.arcs.proofs.ArcWalk.{by-ends}
 use Rattle.arcs.proofs.BitsApart.{depth-below, depth-meter, depth-depth, arc-above, arc-below, arc-number, arc-depth}
 
 -- ---- coefficients
@@ -181,11 +179,17 @@ module _ (N D : ℕ) (us vs ws : List ℕ) (i : ℕ) (a : Arc) (t : ℕ) (is : I
 
 module _ (A N D : ℕ) (us vs ws : List ℕ) where
   -- the weights of the links have no part in a form
-  between : (v t : ℕ) → over (arcs (linksOf us vs ws)) (entering N D v t) ≡ over (arcsBetween us vs) (entering N D v t)
-  between v t = by-child (λ k m. cond (eqb m v) ((N * suc D + k * D + pred t, negsuc 0) ∷ []) []) us vs ws
+  alike : (xs : List ℕ) (v t : ℕ) → over (arcs (linksOf us vs ws)) (entering N D v t) ≡ over (arcs (linksOf us vs xs)) (entering N D v t)
+  alike xs v t = by-ends us vs ws (λ k u m. cond (eqb m v) ((depthsEnd N D + k * D + pred t, negsuc 0) ∷ []) []) xs
+
+  -- so what is added with some is added with any
+  pub entries-any : (i : ℕ) (r s : List ℤ) → s ≡ addTerms (entryTerms A N D (arcs (linksOf us vs ws))) i r → (xs : List ℕ) → s ≡ addTerms (entryTerms A N D (arcs (linksOf us vs xs))) i r
+  unfolding entryTerms
+  entries-any i r s e xs =
+      e ∙ ap (λ (G : ℕ → ℕ → List (ℕ × ℤ)). addTerms (eachOf N (λ v. each D (λ t. square (pos A) (sum ((depthBit D v t, pos 1) ∷ G v t))))) i r) (fun-ext (λ v. fun-ext (λ t. alike xs v t)))
 
   term-between : (v t i : ℕ) (r s : List ℤ) → s ≡ addTerms (entryTerm A N D (arcsBetween us vs) v t ∷ []) i r → s ≡ addTerms (entryTerm A N D (arcs (linksOf us vs ws)) v t ∷ []) i r
-  term-between v t i r s e = e ∙ ap (λ (es : List (ℕ × ℤ)). addTerms (square (pos A) (sum ((depthBit D v t, pos 1) ∷ es)) ∷ []) i r) (sym (between v t))
+  term-between v t i r s e = e ∙ ap (λ (es : List (ℕ × ℤ)). addTerms (square (pos A) (sum ((depthBit D v t, pos 1) ∷ es)) ∷ []) i r) (sym (alike [] v t))
 
   -- that of a meter's depth
   module _ (i v t : ℕ) (is : IsDepth N D i v t) where
@@ -202,14 +206,14 @@ module _ (A N D : ℕ) (us vs ws : List ℕ) where
     root-entry l r = sym (entry-none A N D (arcs (linksOf us vs ws)) i (λ u d p q m n. depth-other N D i v t is (arcs (linksOf us vs ws)) u d p n (λ e f. omega arith)) r)
 
   -- that of an arc: the term of its child
-  module _ (lent : Lent N D us vs ws) (i : ℕ) (a : Arc) (t : ℕ) (is : IsArc N D (linksOf us vs ws) i a t) where
+  module _ (lent : WithDepths N D us vs ws) (i : ℕ) (a : Arc) (t : ℕ) (is : IsArc N D (linksOf us vs ws) i a t) where
     ends : ArcOf N a
     ends = lent-arc N D us vs ws lent a (is .among)
 
     pub arc-held : Held A N D (arcsBetween us vs) (a .child) t i (pos 0 -ℤ pos (2 * A))
     arc-held = record {
       factor = negsuc 0;
-      has = ap (λ (es : List (ℕ × ℤ)). coef ((depthBit D (a .child) t, pos 1) ∷ es) i) (sym (between (a .child) t)) ∙ arc-own N D (linksOf us vs ws) i a t is (ends .child-low) (ends .child-high);
+      has = ap (λ (es : List (ℕ × ℤ)). coef ((depthBit D (a .child) t, pos 1) ∷ es) i) (sym (alike [] (a .child) t)) ∙ arc-own N D (linksOf us vs ws) i a t is (ends .child-low) (ends .child-high);
       unit = refl;
       twice = solve (con (pos 0) ⊖ con (pos 2) ⊗ var 0) (con (pos 2) ⊗ (var 0 ⊗ con (negsuc 0))) tt (pos A ∷ []);
     }

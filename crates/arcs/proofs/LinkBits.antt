@@ -11,7 +11,7 @@ use Rattle.lists.specs.Sums.{sumTo, nth}
 use Rattle.lists.proofs.Sums.{sumTo-eq, sumTo-term, sumTo-split, sumTo-bits}
 use Rattle.qubo.specs.Formula.{Bits}
 use Rattle.arcs.specs.Arcs.{arcsEnd, arcAt}
-use Rattle.arcs.specs.Walks.{linkSet, Used}
+use Rattle.arcs.specs.Inner.{linkSet, Used}
 use Rattle.arcs.proofs.ArcLists.{arcUp, arcBack}
 use Rattle.arcs.proofs.Slices.{slice, slice-sum, link-within}
 

@@ -20,8 +20,7 @@ use Rattle.qubo.proofs.RowAction.{added-abs, room-front, room-back}
 use Rattle.qubo.proofs.RowTerms.{single-norm}
 use Rattle.qubo.proofs.Turns.{less-abs}
 use Rattle.arcs.specs.Arcs.{Arc, depthBit, arcBit}
-use Rattle.arcs.specs.Lent.{Row}
-use Rattle.arcs.specs.Walks.{pairAt, pairsInto, pairsWithin, arcsBetween, Held}
+use Rattle.arcs.specs.Inner.{Row, pairAt, pairsInto, pairsWithin, arcsBetween, Held}
 use Rattle.arcs.proofs.ArcLists.{arcs-length}
 
 -- there is room for terms of norm up to 2^58

@@ -6,14 +6,13 @@ use lib.ListN.{length, getD, take, drop, length-take, length-drop, List·getD-ap
 use lib.Seq.{getD-take, getD-drop, getD-append-add, length-take-le}
 use native.Mathlib.Omega.{arith}
 use native.Mathlib.Decide.{decLt}
-use native.Mathlib.Numerals.{add-one}
 use native.Mathlib.Nat.{mul-le-mul}
 use borrow.Rule.Slice.PartMut.{putMid, same-len-mid, take-put, drop-put}
 use Rattle.lists.specs.Sums.{sumTo, nth}
 use Rattle.lists.proofs.Sums.{sumTo-eq, nth-suc}
 use Rattle.qubo.specs.Formula.{Bits}
 use Rattle.onehot.proofs.Parts.{one-less, part-within}
-use Rattle.arcs.specs.Arcs.{depthBit, arcsEnd}
+use Rattle.arcs.specs.Arcs.{depthBit, depthsEnd, arcsEnd}
 
 -- ---- a part of n numbers
 
@@ -74,31 +73,37 @@ module _ (s : List ℕ) (a e n : ℕ) (is : e ≡ a + n) (fits : e ≤ length s)
 -- ---- where bits begin and end
 
 -- as the code reckons
-pub start-is : (D v : ℕ) → 1 ≤ v → (v - 1) * (D + 1) ≡ depthBit D v 0
+pub start-is : (D v : ℕ) → 1 ≤ v → (v - 1) * suc D ≡ depthBit D v 0
 start-is D zero h = absurd (omega arith)
 start-is D (suc k) h = rw (one-less k) (omega arith)
 
-pub ends-is : (N D M : ℕ) → N * (D + 1) + 2 * M * D ≡ arcsEnd N D M
-ends-is N D M = ap (λ (k : ℕ). N * k + 2 * M * D) (add-one D)
+pub count-start-is : (N D M d v b : ℕ) → 1 ≤ v → b ≡ arcsEnd N D M → b + (v - 1) * d ≡ arcsEnd N D M + pred v * d
+count-start-is N D M d zero b h e = absurd (omega arith)
+count-start-is N D M d (suc k) b h e = rw (one-less k, e) refl
 
 -- 48 meters at depths to 24 have at most 1,200 bits
-pub depths-few : (N D : ℕ) → N ≤ 48 → D ≤ 24 → N * (D + 1) ≤ 1200
-depths-few N D a b = mul-le-mul {n₁ = N} {m₁ = D + 1} {n₂ = 48} {m₂ = 25} a (omega arith)
+pub depths-few : (N D : ℕ) → N ≤ 48 → D ≤ 24 → depthsEnd N D ≤ 1200
+depths-few N D a b = mul-le-mul {n₁ = N} {m₁ = suc D} {n₂ = 48} {m₂ = 25} a (omega arith)
 
--- and 512 arcs at most 12,288
-pub arcs-few : (M D : ℕ) → M ≤ 256 → D ≤ 24 → 2 * M * D ≤ 12288
-arcs-few M D a b = mul-le-mul {n₁ = 2 * M} {m₁ = D} {n₂ = 512} {m₂ = 24} (omega arith) b
+-- with those of up to 512 arcs at most 13,488
+pub arc-small : (N D k : ℕ) → N ≤ 48 → D ≤ 24 → k ≤ 512 → depthsEnd N D + k * D ≤ 13488
+arc-small N D k a b c = omega (arith, depths-few N D a b, mul-le-mul {n₁ = k} {m₁ = D} {n₂ = 512} {m₂ = 24} c b)
 
-pub ends-few : (N D M : ℕ) → N ≤ 48 → D ≤ 24 → M ≤ 256 → (N * (D + 1) ≤ 1200) × (2 * M * D ≤ 12288)
-ends-few N D M n d m = (depths-few N D n d, arcs-few M D m d)
+-- 512 are the arcs of 256 links
+pub ends-few : (N D M : ℕ) → N ≤ 48 → D ≤ 24 → M ≤ 256 → arcsEnd N D M ≤ 13488
+ends-few N D M n d m = arc-small N D (2 * M) n d (omega arith)
 
 -- at most 47 meters come before one
-pub start-small : (D v : ℕ) → D ≤ 24 → v ≤ 48 → (v - 1) * (D + 1) ≤ 1175
-start-small D v d h = mul-le-mul {n₁ = v - 1} {m₁ = D + 1} {n₂ = 47} {m₂ = 25} (omega arith) (omega arith)
+pub start-small : (D v : ℕ) → D ≤ 24 → v ≤ 48 → (v - 1) * suc D ≤ 1175
+start-small D v d h = mul-le-mul {n₁ = v - 1} {m₁ = suc D} {n₂ = 47} {m₂ = 25} (omega arith) (omega arith)
 
--- and at most 511 arcs
-pub arc-small : (N D k : ℕ) → N ≤ 48 → D ≤ 24 → k ≤ 512 → N * (D + 1) + k * D ≤ 13488
-arc-small N D k a b c = omega (arith, depths-few N D a b, mul-le-mul {n₁ = k} {m₁ = D} {n₂ = 512} {m₂ = 24} c b)
+-- 48 meters have at most 2,256 neighbour-count bits
+pub counts-few : (N d : ℕ) → N ≤ 48 → d ≤ 47 → N * d ≤ 2256
+counts-few N d a b = mul-le-mul {n₂ = 48} {m₂ = 47} a b
+
+-- so there are at most 15,744 bits in all
+pub bits-few : (N D M d : ℕ) → N ≤ 48 → D ≤ 24 → M ≤ 256 → d ≤ 47 → arcsEnd N D M + N * d ≤ 15744
+bits-few N D M d n e m l = omega (arith, ends-few N D M n e m, counts-few N d n l)
 
 -- a meter's bits end within those of all
 pub meter-within : (D v N : ℕ) → 1 ≤ v → v ≤ N → depthBit D v 0 + suc D ≤ N * suc D

@@ -15,7 +15,7 @@ use Rattle.qubo.specs.Formula.{Bits, Assignment}
 use Rattle.onehot.specs.Choices.{bitAt, setAt, missSquared, misses}
 use Rattle.arcs.specs.Arcs.{Arc, arcs, depthBit, depthAt, arcAt}
 use Rattle.arcs.specs.Sums.{rootMiss, depthMisses, endMisses, arcCost}
-use Rattle.arcs.specs.Walks.{linkSet, Used}
+use Rattle.arcs.specs.Inner.{linkSet, Used}
 use Rattle.arcs.proofs.ArcLists.{arcUp, arcBack}
 use Rattle.arcs.proofs.LinkBits.{set-halves, none-set}
 use Rattle.arcs.proofs.ArcSums.{ArcsSummed, summed-start, summed-turn, summed-end}
@@ -46,23 +46,23 @@ root-miss-is N D x k r e d = rw e at d
 -- ---- depth_misses: the bits of depths, cut off in front
 
 module _ (N D : ℕ) (x : List ℕ) (fits : N * suc D ≤ length x) where
-  pub front-length : N * (D + 1) ≡ length (take (N * (D + 1)) x)
-  front-length = sym (length-take-le (N * (D + 1)) x (omega arith))
+  pub front-length : N * suc D ≡ length (take (N * suc D) x)
+  front-length = sym (length-take-le (N * suc D) x (omega arith))
 
-  front-bits : Bits x → Bits (take (N * (D + 1)) x)
+  front-bits : Bits x → Bits (take (N * suc D) x)
   front-bits b k =
-      elim (decLt k (N * (D + 1))) [
-        | yes h ↦ rw (getD-take (N * (D + 1)) x k 0 h) (b k)
-        | no h ↦ omega (arith, List·getD-eq-default (take (N * (D + 1)) x) 0 (let l : length (take (N * (D + 1)) x) ≤ k = omega (arith, front-length) in l))
+      elim (decLt k (N * suc D)) [
+        | yes h ↦ rw (getD-take (N * suc D) x k 0 h) (b k)
+        | no h ↦ omega (arith, List·getD-eq-default (take (N * suc D) x) 0 (let l : length (take (N * suc D) x) ≤ k = omega (arith, front-length) in l))
       ]
 
-  pub front-assignment : Bits x → Assignment (N * (D + 1)) (take (N * (D + 1)) x)
+  pub front-assignment : Bits x → Assignment (N * suc D) (take (N * suc D) x)
   front-assignment b = record { size = sym front-length; bits = front-bits b }
 
-  pub depth-misses-is : (r : ℕ) → r ≡ misses N (D + 1) (bitAt (D + 1) (take (N * (D + 1)) x)) → r ≡ depthMisses N D (depthAt D x)
+  pub depth-misses-is : (r : ℕ) → r ≡ misses N (suc D) (bitAt (suc D) (take (N * suc D) x)) → r ≡ depthMisses N D (depthAt D x)
   unfolding misses setAt bitAt depthMisses depthAt
   depth-misses-is r e =
-      rw add-one at e
+      e
       ∙ sumTo-eq N (λ v. missSquared (sumTo (suc D) (λ i. getD (take (N * suc D) x) (pred v * suc D + pred i) 0))) (λ v. missSquared (sumTo (suc D) (λ i. getD x (pred v * suc D + pred i) 0)))
       (λ v p q. ap missSquared (sumTo-eq (suc D) (λ i. getD (take (N * suc D) x) (pred v * suc D + pred i) 0) (λ i. getD x (pred v * suc D + pred i) 0)
       (λ i a b. getD-take (N * suc D) x (pred v * suc D + pred i) 0 (omega (arith, meter-within D v N p q)))))
@@ -142,60 +142,60 @@ unfolding metersGaps meterGaps
 meters-end D x counts v N sum e d = rw e at d
 
 -- the parts of meter v + 1
-module _ (D v : ℕ) (x counts : List ℕ) (f : ℕ) (first : f ≡ depthBit D (v + 1) 0) (fits : f + D + 1 ≤ length x) (room : f + D + 1 ≤ length counts) where
-  bits-length : length (slice x f (f + D + 1)) ≡ D + 1
-  bits-length = slice-length x f (f + D + 1) (D + 1) (omega arith) fits
+module _ (D v : ℕ) (x counts : List ℕ) (f e : ℕ) (first : f ≡ depthBit D (v + 1) 0) (end : e ≡ f + suc D) (fits : e ≤ length x) (room : e ≤ length counts) where
+  bits-length : length (slice x f e) ≡ suc D
+  bits-length = slice-length x f e (suc D) end fits
 
-  counts-length : length (slice counts f (f + D + 1)) ≡ D + 1
-  counts-length = slice-length counts f (f + D + 1) (D + 1) (omega arith) room
+  counts-length : length (slice counts f e) ≡ suc D
+  counts-length = slice-length counts f e (suc D) end room
 
-  bits-at : (i : ℕ) → i ≤ D → getD (slice x f (f + D + 1)) i 0 ≡ depthAt D x (v + 1) i
+  bits-at : (i : ℕ) → i ≤ D → getD (slice x f e) i 0 ≡ depthAt D x (v + 1) i
   unfolding depthAt
-  bits-at i h = let e : f + i ≡ depthBit D (v + 1) i = omega arith in rw (slice-at x f (f + D + 1) (D + 1) (omega arith) fits i (omega arith), e) refl
+  bits-at i h = let g : f + i ≡ depthBit D (v + 1) i = omega arith in rw (slice-at x f e (suc D) end fits i (omega arith), g) refl
 
-  counts-at : (i : ℕ) → i ≤ D → getD (slice counts f (f + D + 1)) i 0 ≡ getD counts (depthBit D (v + 1) i) 0
-  counts-at i h = let e : f + i ≡ depthBit D (v + 1) i = omega arith in rw (slice-at counts f (f + D + 1) (D + 1) (omega arith) room i (omega arith), e) refl
+  counts-at : (i : ℕ) → i ≤ D → getD (slice counts f e) i 0 ≡ getD counts (depthBit D (v + 1) i) 0
+  counts-at i h = let g : f + i ≡ depthBit D (v + 1) i = omega arith in rw (slice-at counts f e (suc D) end room i (omega arith), g) refl
 
   -- what part_gaps asks of them
   pub gaps-room : D ≤ 24 → Bits x → ((u i : ℕ) → 1 ≤ u → 1 ≤ i → i ≤ D → getD counts (depthBit D u i) 0 ≤ 48)
-      → (1 ≤ length (slice x f (f + D + 1)))
-      × (length (slice x f (f + D + 1)) ≤ 25)
-      × (length (slice counts f (f + D + 1)) ≡ length (slice x f (f + D + 1)))
-      × Bits (slice x f (f + D + 1))
-      × ((t : ℕ) → 1 ≤ t → t < length (slice x f (f + D + 1)) → getD (slice counts f (f + D + 1)) t 0 ≤ 48)
+      → (1 ≤ length (slice x f e))
+      × (length (slice x f e) ≤ 25)
+      × (length (slice counts f e) ≡ length (slice x f e))
+      × Bits (slice x f e)
+      × ((t : ℕ) → 1 ≤ t → t < length (slice x f e) → getD (slice counts f e) t 0 ≤ 48)
   gaps-room d b l = (
     omega (arith, bits-length),
     omega (arith, bits-length),
     counts-length ∙ sym bits-length,
-    slice-bits x f (f + D + 1) (D + 1) (omega arith) fits b,
+    slice-bits x f e (suc D) end fits b,
     λ t p q. let h : t ≤ D = omega (arith, bits-length) in omega (arith, counts-at t h, l (v + 1) t (omega arith) p h),
   )
 
   -- their squared gaps are added
-  pub meters-next : (r : ℕ) → r ≡ sumTo (pred (length (slice x f (f + D + 1)))) (λ t. gap (getD (slice x f (f + D + 1)) t 0) (getD (slice counts f (f + D + 1)) t 0) * gap (getD (slice x f (f + D + 1)) t 0) (getD (slice counts f (f + D + 1)) t 0)) → metersGaps D x counts (v + 1) ≡ metersGaps D x counts v + r
+  pub meters-next : (r : ℕ) → r ≡ sumTo (pred (length (slice x f e))) (λ t. gap (getD (slice x f e) t 0) (getD (slice counts f e) t 0) * gap (getD (slice x f e) t 0) (getD (slice counts f e) t 0)) → metersGaps D x counts (v + 1) ≡ metersGaps D x counts v + r
   unfolding metersGaps meterGaps
-  meters-next r e = sumTo-next v (meterGaps D x counts) ∙ ap (λ (k : ℕ). metersGaps D x counts v + k) (own ∙ sym e)
+  meters-next r is = sumTo-next v (meterGaps D x counts) ∙ ap (λ (k : ℕ). metersGaps D x counts v + k) (own ∙ sym is)
     where
       squared : ℕ → ℕ → ℕ
       squared a b = gap a b * gap a b
 
-      d : pred (length (slice x f (f + D + 1))) ≡ D
+      d : pred (length (slice x f e)) ≡ D
       d = omega (arith, bits-length)
 
-      own : meterGaps D x counts (suc v) ≡ sumTo (pred (length (slice x f (f + D + 1)))) (λ t. squared (getD (slice x f (f + D + 1)) t 0) (getD (slice counts f (f + D + 1)) t 0))
+      own : meterGaps D x counts (suc v) ≡ sumTo (pred (length (slice x f e))) (λ t. squared (getD (slice x f e) t 0) (getD (slice counts f e) t 0))
       own =
           ap (meterGaps D x counts) (sym (add-one v))
-          ∙ sumTo-eq D (λ t. squared (depthAt D x (v + 1) t) (getD counts (depthBit D (v + 1) t) 0)) (λ t. squared (getD (slice x f (f + D + 1)) t 0) (getD (slice counts f (f + D + 1)) t 0))
+          ∙ sumTo-eq D (λ t. squared (depthAt D x (v + 1) t) (getD counts (depthBit D (v + 1) t) 0)) (λ t. squared (getD (slice x f e) t 0) (getD (slice counts f e) t 0))
           (λ t p q. ap₂ squared (sym (bits-at t q)) (sym (counts-at t q)))
-          ∙ ap (λ (k : ℕ). sumTo k (λ t. squared (getD (slice x f (f + D + 1)) t 0) (getD (slice counts f (f + D + 1)) t 0))) (sym d)
+          ∙ ap (λ (k : ℕ). sumTo k (λ t. squared (getD (slice x f e) t 0) (getD (slice counts f e) t 0))) (sym d)
 
 -- ---- arc_misses: the parts of arc q from u to v
 
-module _ (N D q u v : ℕ) (x : List ℕ) (a p b : ℕ) (start : a ≡ N * suc D + q * D) (above : p ≡ depthBit D u 0) (below : b ≡ depthBit D v 0) (u1 : 1 ≤ u) (uN : u ≤ N) (v1 : 1 ≤ v) (vN : v ≤ N) (fits : N * suc D + q * D + D ≤ length x) where
+module _ (N D q u v : ℕ) (x : List ℕ) (a p b : ℕ) (start : a ≡ N * suc D + q * D) (above : p ≡ depthBit D u 0) (below : b ≡ depthBit D v 1) (u1 : 1 ≤ u) (uN : u ≤ N) (v1 : 1 ≤ v) (vN : v ≤ N) (fits : N * suc D + q * D + D ≤ length x) where
   pub above-fits : p + D ≤ length x
   above-fits = omega (arith, meter-within D u N u1 uN)
 
-  pub below-fits : b + 1 + D ≤ length x
+  pub below-fits : b + D ≤ length x
   below-fits = omega (arith, meter-within D v N v1 vN)
 
   own-fits : a + D ≤ length x
@@ -208,32 +208,32 @@ module _ (N D q u v : ℕ) (x : List ℕ) (a p b : ℕ) (start : a ≡ N * suc D
   pub misses-room : D ≤ 24 → Bits x
       → (length (slice x a (a + D)) ≤ 24)
       × (length (slice x p (p + D)) ≡ length (slice x a (a + D)))
-      × (length (slice x (b + 1) (b + 1 + D)) ≡ length (slice x a (a + D)))
+      × (length (slice x b (b + D)) ≡ length (slice x a (a + D)))
       × Bits (slice x a (a + D))
       × Bits (slice x p (p + D))
-      × Bits (slice x (b + 1) (b + 1 + D))
+      × Bits (slice x b (b + D))
   misses-room d c = (
     omega (arith, own-length),
     slice-length x p (p + D) D refl above-fits ∙ sym own-length,
-    slice-length x (b + 1) (b + 1 + D) D refl below-fits ∙ sym own-length,
+    slice-length x b (b + D) D refl below-fits ∙ sym own-length,
     slice-bits x a (a + D) D refl own-fits c,
     slice-bits x p (p + D) D refl above-fits c,
-    slice-bits x (b + 1) (b + 1 + D) D refl below-fits c,
+    slice-bits x b (b + D) D refl below-fits c,
   )
 
-  pub arc-misses-is : (r : ℕ) → r ≡ sumTo (length (slice x a (a + D))) (λ i. nth (slice x a (a + D)) i * (2 - (nth (slice x p (p + D)) i + nth (slice x (b + 1) (b + 1 + D)) i)))
+  pub arc-misses-is : (r : ℕ) → r ≡ sumTo (length (slice x a (a + D))) (λ i. nth (slice x a (a + D)) i * (2 - (nth (slice x p (p + D)) i + nth (slice x b (b + D)) i)))
       → r ≡ sumTo D (λ i. getD x (N * suc D + q * D + pred i) 0 * (2 - (depthAt D x u (pred i) + depthAt D x v i)))
   unfolding depthAt
   arc-misses-is r e =
       e
-      ∙ ap (λ (k : ℕ). sumTo k (λ i. nth (slice x a (a + D)) i * (2 - (nth (slice x p (p + D)) i + nth (slice x (b + 1) (b + 1 + D)) i)))) own-length
-      ∙ sumTo-eq D (λ i. nth (slice x a (a + D)) i * (2 - (nth (slice x p (p + D)) i + nth (slice x (b + 1) (b + 1 + D)) i))) (λ i. getD x (N * suc D + q * D + pred i) 0 * (2 - (depthAt D x u (pred i) + depthAt D x v i))) at
+      ∙ ap (λ (k : ℕ). sumTo k (λ i. nth (slice x a (a + D)) i * (2 - (nth (slice x p (p + D)) i + nth (slice x b (b + D)) i)))) own-length
+      ∙ sumTo-eq D (λ i. nth (slice x a (a + D)) i * (2 - (nth (slice x p (p + D)) i + nth (slice x b (b + D)) i))) (λ i. getD x (N * suc D + q * D + pred i) 0 * (2 - (depthAt D x u (pred i) + depthAt D x v i))) at
     where
-      at : (i : ℕ) → 1 ≤ i → i ≤ D → nth (slice x a (a + D)) i * (2 - (nth (slice x p (p + D)) i + nth (slice x (b + 1) (b + 1 + D)) i)) ≡ getD x (N * suc D + q * D + pred i) 0 * (2 - (depthAt D x u (pred i) + depthAt D x v i))
+      at : (i : ℕ) → 1 ≤ i → i ≤ D → nth (slice x a (a + D)) i * (2 - (nth (slice x p (p + D)) i + nth (slice x b (b + D)) i)) ≡ getD x (N * suc D + q * D + pred i) 0 * (2 - (depthAt D x u (pred i) + depthAt D x v i))
       at i l h =
           let d : p + pred i ≡ depthBit D u (pred i) = omega arith in
-          let f : b + 1 + pred i ≡ depthBit D v i = omega arith in
-          rw (slice-nth x a (a + D) D refl own-fits i l h, slice-nth x p (p + D) D refl above-fits i l h, slice-nth x (b + 1) (b + 1 + D) D refl below-fits i l h, start, d, f) refl
+          let f : b + pred i ≡ depthBit D v i = omega arith in
+          rw (slice-nth x a (a + D) D refl own-fits i l h, slice-nth x p (p + D) D refl above-fits i l h, slice-nth x b (b + D) D refl below-fits i l h, start, d, f) refl
 
 -- ---- end_misses and arc_cost: what one arc gives
 

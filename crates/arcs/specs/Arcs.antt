@@ -26,13 +26,17 @@ arcs ls = arcsFrom 0 ls
 abbrev pub depthBit : ℕ → ℕ → ℕ → ℕ
 depthBit D v i = pred v * suc D + i
 
+-- how many bits these are
+abbrev pub depthsEnd : ℕ → ℕ → ℕ
+depthsEnd N D = N * suc D
+
 -- arc a at "depths 1..D", behind the depth bits: that of depth i
 abbrev pub arcBit : ℕ → ℕ → Arc → ℕ → ℕ
-arcBit N D a i = N * suc D + a .number * D + pred i
+arcBit N D a i = depthsEnd N D + a .number * D + pred i
 
--- how many bits these are, with M links
+-- how many bits both are, with M links
 abbrev pub arcsEnd : ℕ → ℕ → ℕ → ℕ
-arcsEnd N D M = N * suc D + 2 * M * D
+arcsEnd N D M = depthsEnd N D + 2 * M * D
 
 -- ---- these bits of the assignment x
 

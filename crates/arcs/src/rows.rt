@@ -1,35 +1,16 @@
 // What depths and arcs add to row i, family by family. The place of bit i tells which terms of a family hold it: at most two walks over the links add them.
-ghost use Prim.Native.Nat.{ℕ, suc, pred, _+_, _*_, _≤_, _<_, _^_};
+ghost use Prim.Native.Nat.{ℕ, pred, _+_, _*_, _≤_, _<_, _^_};
 ghost use mathlib.Core.Path.{_≡_};
-ghost use mathlib.Core.List.{[], _∷_};
+ghost use mathlib.Core.List.{List, [], _∷_};
 ghost use lib.ListN.{length, getD};
 ghost use lib.IntN.{pos, natAbs};
-ghost use Rattle.links.specs.Links.{linksOf};
+ghost use Rattle.links.specs.Links.{Link, linksOf};
 ghost use Rattle.qubo.specs.Rows.{addTerms, Room};
-ghost use Rattle.arcs.specs.Arcs.{arcs, arcsEnd};
+ghost use Rattle.arcs.specs.Arcs.{arcs, depthsEnd, arcsEnd};
 ghost use Rattle.arcs.specs.Formula.{rootTerm, depthTerms, entryTerm, entryTerms, endTerms, weightTerms};
-ghost use Rattle.arcs.specs.Lent.{Lent, Row};
-ghost use Rattle.arcs.specs.Places.{IsPlace};
-ghost use Rattle.arcs.specs.Walks.{pairAt, pairsInto, pairsWithin, arcsBetween, Walk, Held};
-use crate::places::Place;
-use crate::places::arc_start;
-use crate::places::depth_start;
-
-// The bit of a meter at a depth.
-fn depth_bit(deepest: usize, meter: usize, depth: usize) -> usize
-    requires { ⌜ (1 ≤ meter) × (meter ≤ 48) × (depth ≤ deepest) × (deepest ≤ 24) ⌝ }
-    ensures { λ r. ⌜ r ≡ pred meter * suc deepest + depth ⌝ }
-{
-    depth_start(deepest, meter) + depth
-}
-
-// The bit of an arc at a depth.
-fn arc_bit(meters: usize, deepest: usize, number: usize, depth: usize) -> usize
-    requires { ⌜ (meters ≤ 48) × (deepest ≤ 24) × (number ≤ 512) × (1 ≤ depth) × (depth ≤ deepest) ⌝ }
-    ensures { λ r. ⌜ r ≡ meters * suc deepest + number * deepest + pred depth ⌝ }
-{
-    arc_start(meters, deepest, number) + (depth - 1)
-}
+ghost use Rattle.arcs.specs.Inner.{Row, IsPlace, WithPlace, weightIn, pairAt, pairsInto, pairsWithin, arcsBetween, Walk, Held};
+use crate::layout;
+use crate::layout::Place;
 
 // Adds v times bit i times the bit of an arc at a depth to row i, if its end is the meter. Few arcs have it for an end: where the bit stands is computed for these alone.
 fn add_arc(
@@ -43,11 +24,11 @@ fn add_arc(
     meter: u8,
     v: i64,
 )
-    requires { ⌜ (1 ≤ length (now row)) × (meters ≤ 48) × (deepest ≤ 24) × (number ≤ 512) × (1 ≤ depth) × (depth ≤ deepest) × (meters * suc deepest + number * deepest + pred depth < i + length (now row)) × Room (2 ^ 61) (pairAt v i (meters * suc deepest + number * deepest + pred depth) end meter) (now row) ⌝ }
-    ensures { λ _. ⌜ now (row .exit) ≡ addTerms (pairAt v i (meters * suc deepest + number * deepest + pred depth) end meter) i (now (row .entry)) ⌝ }
+    requires { ⌜ (1 ≤ length (now row)) × (meters ≤ 48) × (deepest ≤ 24) × (number ≤ 512) × (1 ≤ depth) × (depth ≤ deepest) × (depthsEnd meters deepest + number * deepest + pred depth < i + length (now row)) × Room (2 ^ 61) (pairAt v i (depthsEnd meters deepest + number * deepest + pred depth) end meter) (now row) ⌝ }
+    ensures { λ _. ⌜ now (row .exit) ≡ addTerms (pairAt v i (depthsEnd meters deepest + number * deepest + pred depth) end meter) i (now (row .entry)) ⌝ }
 {
     if end == meter {
-        let p = arc_bit(meters, deepest, number, depth);
+        let p = layout::arc_bit(meters, deepest, number, depth);
         qubo::add_pair(row, i, i, p, v);
     }
 }
@@ -101,14 +82,14 @@ fn add_arcs_within(
     add_arcs(row, i, tails, heads, meters, deepest, 0, depth, meter, v);
 }
 
-// Adds A times (1 - number of depth-0 bits)² to row i. These are every deepest + 1st bit from the first on.
+// Adds A times (1 - number of depth-0 bits)² to row i. Of each meter's depth bits this is the first.
 pub fn add_root(row: &mut [i64], i: usize, meters: usize, deepest: usize, penalty: u64)
     requires { ⌜ (meters ≤ 48) × (deepest ≤ 24) × Row (2 ^ 59) meters deepest penalty 0 i (now row) ⌝ }
     ensures { λ _. ⌜ now (row .exit) ≡ addTerms (rootTerm penalty meters deepest ∷ []) i (now (row .entry)) ⌝ }
 {
     let run = qubo::Run {
         start: 0,
-        step: deepest + 1,
+        step: layout::depth_width(deepest),
         count: meters,
     };
     qubo::add_one_hot(row, i, run, penalty as i64);
@@ -119,9 +100,8 @@ pub fn add_depths(row: &mut [i64], i: usize, meters: usize, deepest: usize, pena
     requires { ⌜ (meters ≤ 48) × (deepest ≤ 24) × Row (2 ^ 59) meters deepest penalty 0 i (now row) ⌝ }
     ensures { λ _. ⌜ now (row .exit) ≡ addTerms (depthTerms penalty meters deepest) i (now (row .entry)) ⌝ }
 {
-    let width = deepest + 1;
-    if i < meters * width {
-        onehot::add_one_hots(row, i, meters, width, penalty);
+    if i < layout::depths_end(meters, deepest) {
+        onehot::add_one_hots(row, i, layout::depth_width(deepest), penalty);
     }
 }
 
@@ -144,7 +124,7 @@ fn add_entry(
 {
     let less = 0 - (penalty as i64);
     let opposite = 0 - q;
-    let own = depth_bit(deepest, meter, depth);
+    let own = layout::depth_bit(deepest, meter, depth);
     qubo::add_single(row, i, i, less);
     qubo::add_pair(row, i, i, own, q);
     add_arcs(
@@ -161,20 +141,19 @@ fn add_entry(
     );
 }
 
-// Adds A times the sum per meter and depth from 1 on of (its depth bit - arcs into it)² to row i. A depth bit is in the term of its meter and depth, an arc's in that of its child. Link k's arcs are number 2 k and 2 k + 1.
+// Adds A times the sum per meter and depth from 1 on of (its depth bit - arcs into it)² to row i, whatever the weights are. A depth bit is in the term of its meter and depth, an arc's in that of its child. Link k's arcs are number 2 k and 2 k + 1.
 pub fn add_entries(
     row: &mut [i64],
     i: usize,
     place: Place,
     us: &[u8],
     vs: &[u8],
-    ws: &[u16],
     meters: usize,
     deepest: usize,
     penalty: u64,
 )
-    requires { ⌜ Lent meters deepest (now us) (now vs) (now ws) × Row (2 ^ 59) meters deepest penalty (length (now us)) i (now row) × IsPlace meters deepest (linksOf (now us) (now vs) (now ws)) i place ⌝ }
-    ensures { λ _. ⌜ now (row .exit) ≡ addTerms (entryTerms penalty meters deepest (arcs (linksOf (now (us .entry)) (now (vs .entry)) (now (ws .entry))))) i (now (row .entry)) ⌝ }
+    requires { ⌜ WithPlace meters deepest (now us) (now vs) i place × Row (2 ^ 59) meters deepest penalty (length (now us)) i (now row) ⌝ }
+    ensures { λ _. ⌜ ((ws : List ℕ) → now (row .exit) ≡ addTerms (entryTerms penalty meters deepest (arcs (linksOf (now (us .entry)) (now (vs .entry)) ws))) i (now (row .entry))) ⌝ }
 {
     let twice = (2 * penalty) as i64;
     match place {
@@ -197,20 +176,19 @@ pub fn add_entries(
     }
 }
 
-// Adds A times the sum per arc from u to v at depth i of its bit times (2 - [u at i-1] - [v at i]) to row i. An arc's bit has 2 A; a meter's at a depth has -A with each arc out of it one deeper, and with each into it.
+// Adds A times the sum per arc from u to v at depth i of its bit times (2 - [u at i-1] - [v at i]) to row i, whatever the weights are. An arc's bit has 2 A; a meter's at a depth has -A with each arc out of it one deeper, and with each into it.
 pub fn add_ends(
     row: &mut [i64],
     i: usize,
     place: Place,
     us: &[u8],
     vs: &[u8],
-    ws: &[u16],
     meters: usize,
     deepest: usize,
     penalty: u64,
 )
-    requires { ⌜ Lent meters deepest (now us) (now vs) (now ws) × Row (2 ^ 59) meters deepest penalty (length (now us)) i (now row) × IsPlace meters deepest (linksOf (now us) (now vs) (now ws)) i place ⌝ }
-    ensures { λ _. ⌜ now (row .exit) ≡ addTerms (endTerms penalty meters deepest (arcs (linksOf (now (us .entry)) (now (vs .entry)) (now (ws .entry))))) i (now (row .entry)) ⌝ }
+    requires { ⌜ WithPlace meters deepest (now us) (now vs) i place × Row (2 ^ 59) meters deepest penalty (length (now us)) i (now row) ⌝ }
+    ensures { λ _. ⌜ ((ws : List ℕ) → now (row .exit) ≡ addTerms (endTerms penalty meters deepest (arcs (linksOf (now (us .entry)) (now (vs .entry)) ws))) i (now (row .entry))) ⌝ }
 {
     let less = 0 - (penalty as i64);
     match place {
@@ -225,19 +203,10 @@ pub fn add_ends(
     }
 }
 
-// Adds the weight of every arc bit set to row i: an arc's bit has its arc's.
-pub fn add_weights(
-    row: &mut [i64],
-    i: usize,
-    place: Place,
-    us: &[u8],
-    vs: &[u8],
-    ws: &[u16],
-    meters: usize,
-    deepest: usize,
-)
-    requires { ⌜ Lent meters deepest (now us) (now vs) (now ws) × (1 ≤ length (now row)) × ((k : ℕ) → natAbs (getD (now row) k (pos 0)) ≤ 2 ^ 59) × IsPlace meters deepest (linksOf (now us) (now vs) (now ws)) i place ⌝ }
-    ensures { λ _. ⌜ now (row .exit) ≡ addTerms (weightTerms meters deepest (arcs (linksOf (now (us .entry)) (now (vs .entry)) (now (ws .entry))))) i (now (row .entry)) ⌝ }
+// Adds the weight of every arc bit set to row i, whatever the links are among whose bits this is the place of bit i: an arc's bit has its arc's.
+pub fn add_weights(row: &mut [i64], i: usize, place: Place)
+    requires { ⌜ (1 ≤ length (now row)) × ((k : ℕ) → natAbs (getD (now row) k (pos 0)) ≤ 2 ^ 59) × (weightIn place ≤ 65535) ⌝ }
+    ensures { λ _. ⌜ ((N D : ℕ) (ls : List Link) → IsPlace N D ls i place → now (row .exit) ≡ addTerms (weightTerms N D (arcs ls)) i (now (row .entry))) ⌝ }
 {
     match place {
         Place::OfDepth { .. } => {}

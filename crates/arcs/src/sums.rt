@@ -1,24 +1,23 @@
 // The sums of depths and arcs in an assignment. What is counted for meter v at depth t stands in the place of that depth's bit.
-ghost use Prim.Native.Nat.{ℕ, suc, pred, _+_, _-_, _*_, _≤_, _<_};
+ghost use Prim.Native.Nat.{ℕ, pred, _+_, _-_, _*_, _≤_, _<_};
 ghost use mathlib.Core.Path.{_≡_};
 ghost use mathlib.Core.List.{List};
 ghost use lib.ListN.{length, getD};
 ghost use Rattle.lists.specs.Sums.{sumTo, same, gap, nth};
 ghost use Rattle.links.specs.Links.{linksOf};
+ghost use Rattle.links.specs.Survey.{Ends};
 ghost use Rattle.qubo.specs.Formula.{Bits};
-ghost use Rattle.arcs.specs.Arcs.{arcs, depthBit, arcsEnd, depthAt, arcAt};
+ghost use Rattle.arcs.specs.Arcs.{arcs, depthBit, depthsEnd, arcsEnd, depthAt, arcAt};
 ghost use Rattle.arcs.specs.Sums.{rootMiss, depthMisses, entriesOf, entryGaps, endMisses, arcCost};
-ghost use Rattle.arcs.specs.Lent.{Lent};
-ghost use Rattle.arcs.specs.Walks.{linkSet, Used, LinkFits, LinkAdded};
-use crate::places::arc_start;
-use crate::places::depth_start;
+ghost use Rattle.arcs.specs.Inner.{linkSet, Used, LinkFits, LinkAdded};
+use crate::layout;
 
 // How many bits of the two arcs of link k are set: they lie one behind the other.
 fn link_set(bits: &[u8], meters: usize, deepest: usize, k: usize) -> u8
     requires { ⌜ (meters ≤ 48) × (deepest ≤ 24) × (k < 256) × Bits (now bits) × (arcsEnd meters deepest (k + 1) ≤ length (now bits)) ⌝ }
     ensures { λ r. ⌜ r ≡ linkSet meters deepest (now (bits .entry)) k ⌝ }
 {
-    let start = arc_start(meters, deepest, 2 * k);
+    let start = layout::arc_start(meters, deepest, 2 * k);
     let count = onehot::set_count(&bits[start..start + 2 * deepest]);
     count as u8
 }
@@ -37,13 +36,13 @@ pub fn count_used(used: &mut [u8], bits: &[u8], meters: usize, deepest: usize)
 
 // How many depth-0 bits are set.
 fn root_count(bits: &[u8], meters: usize, deepest: usize) -> usize
-    requires { ⌜ (meters ≤ 48) × (deepest ≤ 24) × Bits (now bits) × (meters * suc deepest ≤ length (now bits)) ⌝ }
+    requires { ⌜ (meters ≤ 48) × (deepest ≤ 24) × Bits (now bits) × (depthsEnd meters deepest ≤ length (now bits)) ⌝ }
     ensures { λ r. ⌜ (r ≡ sumTo meters (λ v. depthAt deepest (now (bits .entry)) v 0)) × (r ≤ 48) ⌝ }
 {
     let mut sum: usize = 0;
     let mut v: usize = 0;
     while v < meters {
-        let place = depth_start(deepest, v + 1);
+        let place = layout::depth_start(deepest, v + 1);
         sum += bits[place] as usize;
         v += 1;
     }
@@ -52,7 +51,7 @@ fn root_count(bits: &[u8], meters: usize, deepest: usize) -> usize
 
 // (1 - number of depth-0 bits)².
 pub fn root_miss(bits: &[u8], meters: usize, deepest: usize) -> u64
-    requires { ⌜ (meters ≤ 48) × (deepest ≤ 24) × Bits (now bits) × (meters * suc deepest ≤ length (now bits)) ⌝ }
+    requires { ⌜ (meters ≤ 48) × (deepest ≤ 24) × Bits (now bits) × (depthsEnd meters deepest ≤ length (now bits)) ⌝ }
     ensures { λ r. ⌜ (r ≡ rootMiss meters (depthAt deepest (now (bits .entry)))) × (r ≤ 2209) ⌝ }
 {
     onehot::miss_squared(root_count(bits, meters, deepest))
@@ -60,12 +59,11 @@ pub fn root_miss(bits: &[u8], meters: usize, deepest: usize) -> u64
 
 // Per meter (1 - its depth bits)²: the bits of depths are one-hot choices among deepest + 1.
 pub fn depth_misses(bits: &[u8], meters: usize, deepest: usize) -> u64
-    requires { ⌜ (meters ≤ 48) × (deepest ≤ 24) × Bits (now bits) × (meters * suc deepest ≤ length (now bits)) ⌝ }
+    requires { ⌜ (meters ≤ 48) × (deepest ≤ 24) × Bits (now bits) × (depthsEnd meters deepest ≤ length (now bits)) ⌝ }
     ensures { λ r. ⌜ (r ≡ depthMisses meters deepest (depthAt deepest (now (bits .entry)))) × (r ≤ 106032) ⌝ }
 {
-    let n = deepest + 1;
-    let end = meters * n;
-    onehot::misses_of(&bits[..end], meters, n)
+    let end = layout::depths_end(meters, deepest);
+    onehot::misses_of(&bits[..end], meters, layout::depth_width(deepest))
 }
 
 // Adds the bits of a part to as many counts, all in bytes, so that the loop compiles to wide byte operations.
@@ -89,11 +87,11 @@ fn add_arc(
     number: usize,
     child: usize,
 )
-    requires { ⌜ (meters ≤ 48) × (deepest ≤ 24) × (number < 512) × (1 ≤ child) × (child ≤ meters) × Bits (now bits) × (meters * suc deepest + number * deepest + deepest ≤ length (now bits)) × (length (now counts) ≡ 1200) × ((t : ℕ) → 1 ≤ t → t ≤ deepest → getD (now counts) (depthBit deepest child t) 0 < 255) ⌝ }
-    ensures { λ _. ⌜ (length (now (counts .exit)) ≡ 1200) × ((v t : ℕ) → 1 ≤ v → 1 ≤ t → t ≤ deepest → getD (now (counts .exit)) (depthBit deepest v t) 0 ≡ getD (now (counts .entry)) (depthBit deepest v t) 0 + same child v * getD (now (bits .entry)) (meters * suc deepest + number * deepest + pred t) 0) ⌝ }
+    requires { ⌜ (meters ≤ 48) × (deepest ≤ 24) × (number < 512) × (1 ≤ child) × (child ≤ meters) × Bits (now bits) × (depthsEnd meters deepest + number * deepest + deepest ≤ length (now bits)) × (length (now counts) ≡ 1200) × ((t : ℕ) → 1 ≤ t → t ≤ deepest → getD (now counts) (depthBit deepest child t) 0 < 255) ⌝ }
+    ensures { λ _. ⌜ (length (now (counts .exit)) ≡ 1200) × ((v t : ℕ) → 1 ≤ v → 1 ≤ t → t ≤ deepest → getD (now (counts .exit)) (depthBit deepest v t) 0 ≡ getD (now (counts .entry)) (depthBit deepest v t) 0 + same child v * getD (now (bits .entry)) (depthsEnd meters deepest + number * deepest + pred t) 0) ⌝ }
 {
-    let first = depth_start(deepest, child) + 1;
-    let start = arc_start(meters, deepest, number);
+    let first = layout::depth_bit(deepest, child, 1);
+    let start = layout::arc_start(meters, deepest, number);
     add_bits(
         &mut counts[first..first + deepest],
         &bits[start..start + deepest],
@@ -121,19 +119,18 @@ fn add_link(
     add_arc(counts, bits, meters, deepest, 2 * k + 1, u);
 }
 
-// The arcs into each meter at each depth, in one walk of the links. A meter has at most 47 links, so each count fits in a byte.
+// The arcs into each meter at each depth, in one walk of the links, whatever the weights are. A meter has at most 47 links, so each count fits in a byte.
 fn gather_entries(
     counts: &mut [u8],
     bits: &[u8],
     used: &[u8],
     us: &[u8],
     vs: &[u8],
-    ws: &[u16],
     meters: usize,
     deepest: usize,
 )
-    requires { ⌜ Lent meters deepest (now us) (now vs) (now ws) × Bits (now bits) × (arcsEnd meters deepest (length (now us)) ≤ length (now bits)) × (length (now counts) ≡ 1200) × ((i : ℕ) → getD (now counts) i 0 ≡ 0) × Used meters deepest (length (now us)) (now bits) (now used) ⌝ }
-    ensures { λ _. ⌜ (length (now (counts .exit)) ≡ 1200) × ((v t : ℕ) → 1 ≤ v → 1 ≤ t → t ≤ deepest → getD (now (counts .exit)) (depthBit deepest v t) 0 ≡ entriesOf (arcs (linksOf (now (us .entry)) (now (vs .entry)) (now (ws .entry)))) (arcAt meters deepest (now (bits .entry))) v t) ⌝ }
+    requires { ⌜ Ends meters (now us) (now vs) × (deepest ≤ 24) × Bits (now bits) × (arcsEnd meters deepest (length (now us)) ≤ length (now bits)) × (length (now counts) ≡ 1200) × ((i : ℕ) → getD (now counts) i 0 ≡ 0) × Used meters deepest (length (now us)) (now bits) (now used) ⌝ }
+    ensures { λ _. ⌜ (length (now (counts .exit)) ≡ 1200) × ((ws : List ℕ) (v t : ℕ) → 1 ≤ v → 1 ≤ t → t ≤ deepest → getD (now (counts .exit)) (depthBit deepest v t) 0 ≡ entriesOf (arcs (linksOf (now (us .entry)) (now (vs .entry)) ws)) (arcAt meters deepest (now (bits .entry))) v t) ⌝ }
 {
     let mut k: usize = 0;
     while k < us.len() {
@@ -162,35 +159,35 @@ fn part_gaps(part: &[u8], counts: &[u8]) -> u64
 
 // The same over all meters.
 fn meter_gaps(bits: &[u8], counts: &[u8], meters: usize, deepest: usize) -> u64
-    requires { ⌜ (meters ≤ 48) × (deepest ≤ 24) × Bits (now bits) × (meters * suc deepest ≤ length (now bits)) × (length (now counts) ≡ 1200) × ((v t : ℕ) → 1 ≤ v → 1 ≤ t → t ≤ deepest → getD (now counts) (depthBit deepest v t) 0 ≤ 48) ⌝ }
+    requires { ⌜ (meters ≤ 48) × (deepest ≤ 24) × Bits (now bits) × (depthsEnd meters deepest ≤ length (now bits)) × (length (now counts) ≡ 1200) × ((v t : ℕ) → 1 ≤ v → 1 ≤ t → t ≤ deepest → getD (now counts) (depthBit deepest v t) 0 ≤ 48) ⌝ }
     ensures { λ r. ⌜ (r ≡ sumTo meters (λ v. sumTo deepest (λ t. gap (depthAt deepest (now (bits .entry)) v t) (getD (now (counts .entry)) (depthBit deepest v t) 0) * gap (depthAt deepest (now (bits .entry)) v t) (getD (now (counts .entry)) (depthBit deepest v t) 0)))) × (r ≤ 2654208) ⌝ }
 {
+    let width = layout::depth_width(deepest);
     let mut sum: u64 = 0;
     let mut v: usize = 0;
     while v < meters {
-        let first = depth_start(deepest, v + 1);
-        let end = first + deepest + 1;
+        let first = layout::depth_start(deepest, v + 1);
+        let end = first + width;
         sum += part_gaps(&bits[first..end], &counts[first..end]);
         v += 1;
     }
     sum
 }
 
-// Per meter and depth i ≥ 1 (its depth-i bit - depth-i arcs into it)².
+// Per meter and depth i ≥ 1 (its depth-i bit - depth-i arcs into it)², whatever the weights are.
 pub fn entry_gaps(
     bits: &[u8],
     used: &[u8],
     us: &[u8],
     vs: &[u8],
-    ws: &[u16],
     meters: usize,
     deepest: usize,
 ) -> u64
-    requires { ⌜ Lent meters deepest (now us) (now vs) (now ws) × Bits (now bits) × (arcsEnd meters deepest (length (now us)) ≤ length (now bits)) × Used meters deepest (length (now us)) (now bits) (now used) ⌝ }
-    ensures { λ r. ⌜ (r ≡ entryGaps meters deepest (arcs (linksOf (now (us .entry)) (now (vs .entry)) (now (ws .entry)))) (depthAt deepest (now (bits .entry))) (arcAt meters deepest (now (bits .entry)))) × (r ≤ 2654208) ⌝ }
+    requires { ⌜ Ends meters (now us) (now vs) × (deepest ≤ 24) × Bits (now bits) × (arcsEnd meters deepest (length (now us)) ≤ length (now bits)) × Used meters deepest (length (now us)) (now bits) (now used) ⌝ }
+    ensures { λ r. ⌜ ((ws : List ℕ) → r ≡ entryGaps meters deepest (arcs (linksOf (now (us .entry)) (now (vs .entry)) ws)) (depthAt deepest (now (bits .entry))) (arcAt meters deepest (now (bits .entry)))) × (r ≤ 2654208) ⌝ }
 {
     let mut counts: [u8; 1200] = [0; 1200];
-    gather_entries(&mut counts[..1200], bits, used, us, vs, ws, meters, deepest);
+    gather_entries(&mut counts[..1200], bits, used, us, vs, meters, deepest);
     meter_gaps(bits, &counts[..1200], meters, deepest)
 }
 
@@ -218,12 +215,12 @@ fn arc_misses(
     parent: usize,
     child: usize,
 ) -> u64
-    requires { ⌜ (meters ≤ 48) × (deepest ≤ 24) × (number < 512) × (1 ≤ parent) × (parent ≤ meters) × (1 ≤ child) × (child ≤ meters) × Bits (now bits) × (meters * suc deepest + number * deepest + deepest ≤ length (now bits)) ⌝ }
-    ensures { λ r. ⌜ (r ≡ sumTo deepest (λ i. getD (now (bits .entry)) (meters * suc deepest + number * deepest + pred i) 0 * (2 - (depthAt deepest (now (bits .entry)) parent (pred i) + depthAt deepest (now (bits .entry)) child i)))) × (r ≤ 48) ⌝ }
+    requires { ⌜ (meters ≤ 48) × (deepest ≤ 24) × (number < 512) × (1 ≤ parent) × (parent ≤ meters) × (1 ≤ child) × (child ≤ meters) × Bits (now bits) × (depthsEnd meters deepest + number * deepest + deepest ≤ length (now bits)) ⌝ }
+    ensures { λ r. ⌜ (r ≡ sumTo deepest (λ i. getD (now (bits .entry)) (depthsEnd meters deepest + number * deepest + pred i) 0 * (2 - (depthAt deepest (now (bits .entry)) parent (pred i) + depthAt deepest (now (bits .entry)) child i)))) × (r ≤ 48) ⌝ }
 {
-    let start = arc_start(meters, deepest, number);
-    let above = depth_start(deepest, parent);
-    let below = depth_start(deepest, child) + 1;
+    let start = layout::arc_start(meters, deepest, number);
+    let above = layout::depth_start(deepest, parent);
+    let below = layout::depth_bit(deepest, child, 1);
     part_misses(
         &bits[start..start + deepest],
         &bits[above..above + deepest],
@@ -241,8 +238,8 @@ fn link_misses(
     v: usize,
     n: u8,
 ) -> u64
-    requires { ⌜ (meters ≤ 48) × (deepest ≤ 24) × (k < 256) × (1 ≤ u) × (u ≤ meters) × (1 ≤ v) × (v ≤ meters) × Bits (now bits) × (meters * suc deepest + (2 * k + 1) * deepest + deepest ≤ length (now bits)) × (n ≡ linkSet meters deepest (now bits) k) ⌝ }
-    ensures { λ r. ⌜ (r ≡ sumTo deepest (λ i. getD (now (bits .entry)) (meters * suc deepest + 2 * k * deepest + pred i) 0 * (2 - (depthAt deepest (now (bits .entry)) u (pred i) + depthAt deepest (now (bits .entry)) v i))) + sumTo deepest (λ i. getD (now (bits .entry)) (meters * suc deepest + (2 * k + 1) * deepest + pred i) 0 * (2 - (depthAt deepest (now (bits .entry)) v (pred i) + depthAt deepest (now (bits .entry)) u i)))) × (r ≤ 96) ⌝ }
+    requires { ⌜ (meters ≤ 48) × (deepest ≤ 24) × (k < 256) × (1 ≤ u) × (u ≤ meters) × (1 ≤ v) × (v ≤ meters) × Bits (now bits) × (depthsEnd meters deepest + (2 * k + 1) * deepest + deepest ≤ length (now bits)) × (n ≡ linkSet meters deepest (now bits) k) ⌝ }
+    ensures { λ r. ⌜ (r ≡ sumTo deepest (λ i. getD (now (bits .entry)) (depthsEnd meters deepest + 2 * k * deepest + pred i) 0 * (2 - (depthAt deepest (now (bits .entry)) u (pred i) + depthAt deepest (now (bits .entry)) v i))) + sumTo deepest (λ i. getD (now (bits .entry)) (depthsEnd meters deepest + (2 * k + 1) * deepest + pred i) 0 * (2 - (depthAt deepest (now (bits .entry)) v (pred i) + depthAt deepest (now (bits .entry)) u i)))) × (r ≤ 96) ⌝ }
 {
     if n == 0 {
         return 0;
@@ -252,18 +249,17 @@ fn link_misses(
     there + back
 }
 
-// Per arc and depth, its bit times (2 - [parent one less deep] - [child as deep]).
+// Per arc and depth, its bit times (2 - [parent one less deep] - [child as deep]), whatever the weights are.
 pub fn end_misses(
     bits: &[u8],
     used: &[u8],
     us: &[u8],
     vs: &[u8],
-    ws: &[u16],
     meters: usize,
     deepest: usize,
 ) -> u64
-    requires { ⌜ Lent meters deepest (now us) (now vs) (now ws) × Bits (now bits) × (arcsEnd meters deepest (length (now us)) ≤ length (now bits)) × Used meters deepest (length (now us)) (now bits) (now used) ⌝ }
-    ensures { λ r. ⌜ (r ≡ endMisses deepest (arcs (linksOf (now (us .entry)) (now (vs .entry)) (now (ws .entry)))) (depthAt deepest (now (bits .entry))) (arcAt meters deepest (now (bits .entry)))) × (r ≤ 24576) ⌝ }
+    requires { ⌜ Ends meters (now us) (now vs) × (deepest ≤ 24) × Bits (now bits) × (arcsEnd meters deepest (length (now us)) ≤ length (now bits)) × Used meters deepest (length (now us)) (now bits) (now used) ⌝ }
+    ensures { λ r. ⌜ ((ws : List ℕ) → r ≡ endMisses deepest (arcs (linksOf (now (us .entry)) (now (vs .entry)) ws)) (depthAt deepest (now (bits .entry))) (arcAt meters deepest (now (bits .entry)))) × (r ≤ 24576) ⌝ }
 {
     let mut sum: u64 = 0;
     let mut k: usize = 0;

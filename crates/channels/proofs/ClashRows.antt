@@ -5,7 +5,7 @@ use mathlib.Core.List.{List, [], _∷_}
 use lib.ListN.{length, getD}
 use lib.IntN.{ℤ, pos}
 use native.Mathlib.Omega.{arith}
-use native.Mathlib.Nat.{mod-lt}
+use native.Mathlib.Nat.{mod-lt, eq-of-mul-eq-mul-right}
 use mir.Syntax.{w64}
 use mir.Val.{toZ}
 use mir.Facts.{toZ-pos}
@@ -24,7 +24,7 @@ use Rattle.qubo.proofs.RowAction.{each-nothing, add-only, row-next, row-top, ro
 use Rattle.qubo.proofs.RowWalk.{Walked, walked-first, walked-room, walked-turn, walked-stop}
 use Rattle.qubo.proofs.RowTerms.{pair-nothing, pair-absent}
 use Rattle.onehot.specs.Choices.{bitNumber, oneHots}
-use Rattle.onehot.specs.Lent.{Lent}
+use Rattle.onehot.specs.Inner.{WithChoices}
 use Rattle.onehot.proofs.Penalty.{one-hots-small}
 use Rattle.onehot.proofs.Rows.{bit-meter, bit-choice, bit-rise, own-bit, higher-bit, higher-inside, row-hots}
 use Rattle.onehot.proofs.LinkTerms.{left, left-all, left-next, left-none}
@@ -62,7 +62,7 @@ clashesAt n us vs ws k = linkClashes n (linkIn us vs ws k)
 abbrev pub Added : ℕ → ℕ → List ℕ → List ℕ → List ℕ → List ℤ → List ℤ → ℕ → Type 0
 Added n i us vs ws row₀ row k = Walked (2 ^ 61) (left (linkClashes n) us vs ws) (length us) i row₀ row k
 
-module _ (N n i : ℕ) (us vs ws : List ℕ) (lent : Lent N n us vs ws) where
+module _ (N n i : ℕ) (us vs ws : List ℕ) (lent : WithChoices N n us vs ws) where
   -- the link at k adds nothing where its lower end is another meter than that of bit i
   other-nothing : (k : ℕ) → k < length us → (getD us k 0 ≡ i / n + 1 → ⊥) → (r : List ℤ) → addTerms (clashesAt n us vs ws k) i r ≡ r
   unfolding linkIn
@@ -124,7 +124,7 @@ module _ (N n i : ℕ) (us vs ws : List ℕ) (lent : Lent N n us vs ws) where
 
 -- ---- row_into: zeros, then the penalty, then the clashes
 
-module _ (A N n i : ℕ) (us vs ws : List ℕ) (lent : Lent N n us vs ws) (small : A ≤ 2 ^ 32) (L : ℕ) (top : i + L ≡ N * n) (r : List ℤ) (none : r ≡ zeros L) where
+module _ (A N n i : ℕ) (us vs ws : List ℕ) (lent : WithChoices N n us vs ws) (small : A ≤ 2 ^ 32) (L : ℕ) (top : i + L ≡ N * n) (r : List ℤ) (none : r ≡ zeros L) where
   module _ (s : List ℤ) (hots : s ≡ addTerms (oneHots A N n) i r) where
     so-far : s ≡ rowOf (oneHots A N n) (N * n) i
     so-far = row-hots A N n i us vs ws lent small L top r none s hots
@@ -135,6 +135,7 @@ module _ (A N n i : ℕ) (us vs ws : List ℕ) (lent : Lent N n us vs ws) (small
       row-room _ (N * n) (oneHots A N n) (clashTerms n (linksOf us vs ws)) i s so-far (omega (arith, one-hots-small A N n (lent .arrays .survey .meters-high) (lent .high) small, clash-norm N n (linksOf us vs ws) (lent .arrays .survey) (lent .high))),
     )
 
-    pub row-done : (t : List ℤ) → t ≡ addTerms (clashTerms n (linksOf us vs ws)) i s → t ≡ rowOf (formula A N n (linksOf us vs ws)) (N * n) i
+    -- so many bits are those of N meters and of no other number
+    pub row-done : (t : List ℤ) → t ≡ addTerms (clashTerms n (linksOf us vs ws)) i s → (M : ℕ) → i + L ≡ M * n → t ≡ rowOf (formula A M n (linksOf us vs ws)) (M * n) i
     unfolding formula
-    row-done t e = row-next (N * n) (oneHots A N n) (clashTerms n (linksOf us vs ws)) i s t so-far e
+    row-done t e M h = rw (eq-of-mul-eq-mul-right n (lent .low) M N (sym h ∙ top)) (row-next (N * n) (oneHots A N n) (clashTerms n (linksOf us vs ws)) i s t so-far e)

@@ -14,7 +14,7 @@ use Rattle.links.specs.Links.{Link, linkIn, linksFrom, linksOf}
 use Rattle.links.proofs.Halving.{ends-rise}
 use Rattle.links.proofs.Walk.{link-at, arrays-few, sumFrom, sum-turn, sum-end, Summed, summed-start, summed-turn, summed-skip, summed-end}
 use Rattle.qubo.specs.Formula.{Bits, Assignment}
-use Rattle.onehot.specs.Lent.{Lent}
+use Rattle.onehot.specs.Inner.{WithChoices}
 use Rattle.onehot.proofs.Parts.{partOf, cut-small}
 use Rattle.onehot.proofs.Turns.{cut-length, cut-at}
 use Rattle.channels.specs.Repair.{bears, heard, quietest}
@@ -120,7 +120,7 @@ module _ (n : ℕ) (x p us vs ws : List ℕ) (m : ℕ) where
   heard-end k s g h i a b = summed-end us vs ws (hears (bears n x p) m i) k (getD s i 0) (g .so-far i a b) h
 
 -- a turn: w added for each channel that the other end bears, where link k has an end m
-module _ (N n : ℕ) (x p us vs ws : List ℕ) (lent : Lent N n us vs ws) (bits : Assignment (N * n) x) (m k : ℕ) (h : k < length us) (s : List ℕ) (g : HeardSoFar n x p us vs ws m k s) where
+module _ (N n : ℕ) (x p us vs ws : List ℕ) (lent : WithChoices N n us vs ws) (bits : Assignment (N * n) x) (m k : ℕ) (h : k < length us) (s : List ℕ) (g : HeardSoFar n x p us vs ws m k s) where
   -- what add_borne asks of the other end
   pub heard-room : (e : ℕ) → 1 ≤ e → e ≤ N → (length s ≡ 256) × (n ≤ 16) × (1 ≤ e) × (e * n ≤ length x) × (getD ws k 0 ≤ 65535) × Bits x × ((i : ℕ) → getD s i 0 < 4294967296)
   heard-room e a b = (
@@ -160,7 +160,7 @@ module _ (N n : ℕ) (x p us vs ws : List ℕ) (lent : Lent N n us vs ws) (bits 
   }
 
 -- links with no end m add nothing
-module _ (N n : ℕ) (x p us vs ws : List ℕ) (lent : Lent N n us vs ws) (bits : Assignment (N * n) x) (m : ℕ) (s : List ℕ) (end : ℕ) (within : end ≤ length us) where
+module _ (N n : ℕ) (x p us vs ws : List ℕ) (lent : WithChoices N n us vs ws) (bits : Assignment (N * n) x) (m : ℕ) (s : List ℕ) (end : ℕ) (within : end ≤ length us) where
   heard-over : (r k : ℕ) → r + k ≡ end → ((j : ℕ) → k ≤ j → j < end → (getD us j 0 ≡ m → ⊥) × (getD vs j 0 ≡ m → ⊥)) → HeardSoFar n x p us vs ws m k s → HeardSoFar n x p us vs ws m end s
   heard-over zero k e other g = let d : k ≡ end = omega arith in rw (← d) g
   heard-over (suc r) k e other g =
@@ -172,7 +172,7 @@ module _ (N n : ℕ) (x p us vs ws : List ℕ) (lent : Lent N n us vs ws) (bits 
   heard-past k h = heard-over (end - k) k (omega arith)
 
 -- from the first link of a higher meter on, none has an end m
-module _ (N n : ℕ) (x p us vs ws : List ℕ) (lent : Lent N n us vs ws) (bits : Assignment (N * n) x) (m : ℕ) (s : List ℕ) where
+module _ (N n : ℕ) (x p us vs ws : List ℕ) (lent : WithChoices N n us vs ws) (bits : Assignment (N * n) x) (m : ℕ) (s : List ℕ) where
   pub heard-stop : (k : ℕ) → HeardSoFar n x p us vs ws m k s → k < length us → m ≤ getD us k 0 → (getD us k 0 ≡ m → ⊥) → (i : ℕ) → 1 ≤ i → i ≤ n → getD s i 0 ≡ heard (linksOf us vs ws) (bears n x p) m i
   heard-stop k g h low ne =
       heard-end n x p us vs ws m (length us) s

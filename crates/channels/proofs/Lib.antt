@@ -4,7 +4,6 @@ pub mod Load
 pub mod Step
 pub mod Repaired
 pub mod Asking
-pub mod AnyPenalty
 pub mod Demands
 pub mod Gathering
 pub mod Clashing

@@ -1,4 +1,4 @@
--- The load of a meter, the sum of link weights at it: what a link adds, that none is great, and that A is above all. Assumes nothing.
+-- The load of a meter, the sum of link weights at it: what a link adds, that none is great, and what it is for A to be above all. Assumes nothing.
 use Prim.Native.Nat.{ℕ, _≤_, _<_}
 use mathlib.Core.Path.{_≡_, refl}
 use mathlib.Core.Bool.{cond}
@@ -7,11 +7,10 @@ use native.Mathlib.Omega.{arith}
 use native.Mathlib.Decide.{ℕ-discrete}
 use borrow.Author.Tests.{eq-eqb, ne-eqb}
 use Rattle.lists.specs.Sums.{sumOf}
-use Rattle.lists.proofs.Sums.{greatest-term, greatest-bound}
 use Rattle.links.specs.Links.{Link, isAt}
 use Rattle.links.specs.Survey.{Survey}
 use Rattle.links.proofs.Walk.{sum-bounded}
-use Rattle.channels.specs.Formula.{load, penalty}
+use Rattle.channels.specs.Formula.{load}
 
 -- ---- what one link adds
 
@@ -50,11 +49,6 @@ load-sum ls m = refl
 pub load-small : (N : ℕ) (ls : List Link) → Survey N ls → (m : ℕ) → load ls m ≤ 16776960
 load-small N ls s m = omega (arith, load-sum ls m, s .few, sum-bounded N ls (s .each) (loadOf m) 65535 (λ l o. omega (arith, load-most l m, o .weight-high)))
 
-pub penalty-small : (N : ℕ) (ls : List Link) → Survey N ls → penalty N ls ≤ 16776961
-unfolding penalty
-penalty-small N ls s = omega (arith, greatest-bound N (load ls) 16776960 (λ m p q. load-small N ls s m))
-
--- 01's penalty is above every meter's load
-pub load-less : (N : ℕ) (ls : List Link) (m : ℕ) → 1 ≤ m → m ≤ N → load ls m < penalty N ls
-unfolding penalty
-load-less N ls m a b = omega (arith, greatest-term N (load ls) m a b)
+-- A is above every meter's load
+abbrev pub Heavy : ℕ → ℕ → List Link → Type 0
+Heavy A N ls = (m : ℕ) → 1 ≤ m → m ≤ N → load ls m < A

@@ -18,9 +18,10 @@ use Rattle.links.proofs.Walk.{sum-equal}
 use Rattle.qubo.specs.Formula.{Bits, Assignment}
 use Rattle.onehot.specs.Choices.{bitAt, setAt, missSquared, misses, code}
 use Rattle.onehot.proofs.Codes.{Choices, Hot, hot-code, code-inj, code-bits, one-each}
-use Rattle.channels.specs.Formula.{load, clashingOf}
+use Rattle.channels.specs.Formula.{clashingOf}
 use Rattle.channels.specs.Plans.{clashWeight}
 use Rattle.channels.specs.Repair.{bears, heard, quietest, repairOne, repairBy, repaired}
+use Rattle.channels.proofs.Load.{Heavy}
 use Rattle.channels.proofs.Step.{worth, setAt-eq, step}
 
 -- ---- assignments that agree, and those that are a plan's
@@ -178,7 +179,7 @@ module _ (pick : List ℕ → ℕ → ℕ) (n : ℕ) (x : List ℕ) (picks : Pic
   set-came : (k : ℕ) → setAt n (bears n x (repairBy pick n x k)) (suc k) ≡ setAt n (bitAt n x) (suc k)
   set-came k = setAt-eq n (bears n x (repairBy pick n x k)) (bitAt n x) (suc k) (λ i a b. as-came k i)
 
-  module _ (A N : ℕ) (ls : List Link) (bits : Bits x) (heavy : (m : ℕ) → 1 ≤ m → m ≤ N → load ls m < A) where
+  module _ (A N : ℕ) (ls : List Link) (bits : Bits x) (heavy : Heavy A N ls) where
     -- one meter more
     one-more : (k : ℕ) → suc k ≤ N
         → worth A N n ls (bears n x (repairBy pick n x (suc k))) + differ (setAt n (bitAt n x) (suc k)) 1 ≤ worth A N n ls (bears n x (repairBy pick n x k))

@@ -1,4 +1,4 @@
 pub mod Formula
 pub mod Plans
 pub mod Repair
-pub mod Best
+pub mod Instance

@@ -1,6 +1,6 @@
 // Kind 1, channels: what document 01 asks of it, over the number of meters, the links as three arrays, and n.
 // Definitions are in specs/; that the lowest assignments are the codes of the best plans is proved in proofs/.
-ghost use Prim.Native.Nat.{_+_, _-_, _*_, _≤_, _<_, _^_};
+ghost use Prim.Native.Nat.{ℕ, _+_, _-_, _*_, _≤_, _<_, _^_};
 ghost use mathlib.Core.Bool.{true};
 ghost use mathlib.Core.Path.{_≡_};
 ghost use mathlib.Core.List.{List, _++_};
@@ -9,7 +9,7 @@ ghost use Rattle.links.specs.Links.{Link, linksOf};
 ghost use Rattle.links.specs.Survey.{Arrays};
 ghost use Rattle.qubo.specs.Formula.{Assignment, value};
 ghost use Rattle.qubo.specs.Table.{constantOf, rowOf};
-ghost use Rattle.onehot.specs.Lent.{Lent};
+ghost use Rattle.onehot.specs.Inner.{WithChoices};
 ghost use Rattle.channels.specs.Formula.{withinLimits, bitCount, penalty, formula};
 ghost use Rattle.channels.specs.Plans.{isPlan, codeOf, clashWeight};
 ghost use Rattle.channels.specs.Repair.{decoded, repaired};
@@ -59,14 +59,14 @@ pub fn penalty_of(us: &[u8], vs: &[u8], ws: &[u16], meters: usize) -> u64
     ensures { λ r. ⌜ r ≡ penalty meters (linksOf (now (us .entry)) (now (vs .entry)) (now (ws .entry))) ⌝ }
 {
     let mut sums: [u64; 256] = [0; 256];
-    loads::gather(&mut sums[..256], us, vs, ws, meters);
+    loads::gather(&mut sums[..256], us, vs, ws);
     1 + loads::greatest_load(&sums[..256], meters)
 }
 
-// The constant of the table, whatever the links are: A for each meter.
-pub fn constant(meters: usize, n: usize, penalty: u64) -> i64
+// The constant of the table, whatever n and the links are: A for each meter.
+pub fn constant(meters: usize, penalty: u64) -> i64
     requires { ⌜ (meters ≤ 48) × (penalty ≤ 2 ^ 32) ⌝ }
-    ensures { λ r. ⌜ ((ls : List Link) → r ≡ constantOf (formula penalty meters n ls)) ⌝ }
+    ensures { λ r. ⌜ ((n : ℕ) (ls : List Link) → r ≡ constantOf (formula penalty meters n ls)) ⌝ }
 {
     let sum = penalty * (meters as u64);
     sum as i64
@@ -83,11 +83,11 @@ pub fn fill_row(
     i: usize,
     out: &mut [i64],
 )
-    requires { ⌜ Lent meters n (now us) (now vs) (now ws) × (penalty ≤ 2 ^ 32) × (i < bitCount meters n) × (bitCount meters n ≤ i + length (now out)) ⌝ }
+    requires { ⌜ WithChoices meters n (now us) (now vs) (now ws) × (penalty ≤ 2 ^ 32) × (i < bitCount meters n) × (bitCount meters n ≤ i + length (now out)) ⌝ }
     ensures { λ _. ⌜ now (out .exit) ≡ rowOf (formula penalty meters n (linksOf (now (us .entry)) (now (vs .entry)) (now (ws .entry)))) (bitCount meters n) i ++ drop (bitCount meters n - i) (now (out .entry)) ⌝ }
 {
     let len = meters * n - i;
-    rows::row_into(&mut out[..len], us, vs, ws, meters, n, penalty, i);
+    rows::row_into(&mut out[..len], us, vs, ws, n, penalty, i);
 }
 
 // The energy of an assignment, by the formula itself.
@@ -100,11 +100,11 @@ pub fn energy(
     n: usize,
     penalty: u64,
 ) -> i64
-    requires { ⌜ Lent meters n (now us) (now vs) (now ws) × (penalty ≤ 2 ^ 32) × Assignment (bitCount meters n) (now bits) ⌝ }
+    requires { ⌜ WithChoices meters n (now us) (now vs) (now ws) × (penalty ≤ 2 ^ 32) × Assignment (bitCount meters n) (now bits) ⌝ }
     ensures { λ r. ⌜ r ≡ value (formula penalty meters n (linksOf (now (us .entry)) (now (vs .entry)) (now (ws .entry)))) (now (bits .entry)) ⌝ }
 {
     let missed = onehot::misses_of(bits, meters, n);
-    let clashing = clashes::clashing(bits, us, vs, ws, meters, n);
+    let clashing = clashes::clashing(bits, us, vs, ws, n);
     let sum = penalty * missed + clashing;
     sum as i64
 }
@@ -134,13 +134,13 @@ pub fn decode(
     n: usize,
     plan: &mut [u8],
 ) -> Decoded
-    requires { ⌜ Lent meters n (now us) (now vs) (now ws) × Assignment (bitCount meters n) (now bits) × (length (now plan) ≡ meters) ⌝ }
+    requires { ⌜ WithChoices meters n (now us) (now vs) (now ws) × Assignment (bitCount meters n) (now bits) × (length (now plan) ≡ meters) ⌝ }
     ensures plan { λ r. ⌜ now (plan .exit) ≡ decoded meters n (linksOf (now (us .entry)) (now (vs .entry)) (now (ws .entry))) (now (bits .entry)) ⌝ }
     ensures weight { λ r. ⌜ r .weight ≡ clashWeight (linksOf (now (us .entry)) (now (vs .entry)) (now (ws .entry))) (decoded meters n (linksOf (now (us .entry)) (now (vs .entry)) (now (ws .entry))) (now (bits .entry))) ⌝ }
     ensures repaired { λ r. ⌜ r .repaired ≡ repaired meters n (now (bits .entry)) ⌝ }
 {
     repair::repair_all(bits, us, vs, ws, meters, n, plan);
-    let weight = onehot::alike_weight(plan, us, vs, ws, meters);
+    let weight = onehot::alike_weight(plan, us, vs, ws);
     let count = repair::repaired_count(bits, meters, n);
     Decoded {
         weight: weight,

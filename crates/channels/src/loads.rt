@@ -15,9 +15,9 @@ fn add_load(sums: &mut [u64], m: usize, w: u16)
     sums[m] = sums[m] + (w as u64);
 }
 
-// The sum of link weights at each meter m, in place m; a meter's number is a byte.
-pub fn gather(sums: &mut [u64], us: &[u8], vs: &[u8], ws: &[u16], meters: usize)
-    requires { ⌜ Arrays meters (now us) (now vs) (now ws) × (length (now sums) ≡ 256) × ((m : ℕ) → getD (now sums) m 0 ≡ 0) ⌝ }
+// The sum of link weights at each meter m, in place m; a meter's number is a byte, however many there are.
+pub fn gather(sums: &mut [u64], us: &[u8], vs: &[u8], ws: &[u16])
+    requires { ⌜ ((N : ℕ) × Arrays N (now us) (now vs) (now ws) × (length (now sums) ≡ 256) × ((m : ℕ) → getD (now sums) m 0 ≡ 0)) ⌝ }
     ensures { λ _. ⌜ (length (now (sums .exit)) ≡ 256) × ((m : ℕ) → getD (now (sums .exit)) m 0 ≡ load (linksOf (now (us .entry)) (now (vs .entry)) (now (ws .entry))) m) ⌝ }
 {
     let mut k: usize = 0;

@@ -1,11 +1,11 @@
-// A meter with no bit set: the channel on which it hears least of its neighbours.
+// A meter with no bit set: the channel on which it hears least of its neighbours, however many meters there are.
 ghost use Prim.Native.Nat.{ℕ, _+_, _-_, _*_, _≤_, _<_};
 ghost use mathlib.Core.Path.{_≡_};
 ghost use lib.ListN.{length, getD};
 ghost use Rattle.lists.specs.Sums.{leastAt};
 ghost use Rattle.links.specs.Links.{linksFrom, linksOf};
 ghost use Rattle.qubo.specs.Formula.{Bits, Assignment};
-ghost use Rattle.onehot.specs.Lent.{Lent};
+ghost use Rattle.onehot.specs.Inner.{WithChoices};
 ghost use Rattle.channels.specs.Repair.{bears, heard, quietest};
 
 // Adds w to the sum of each channel that meter m bears: its repaired channel where the plan has it already, else its bits as they came.
@@ -46,12 +46,11 @@ fn gather_lower(
     us: &[u8],
     vs: &[u8],
     ws: &[u16],
-    meters: usize,
     n: usize,
     m: usize,
     first: usize,
 )
-    requires { ⌜ Lent meters n (now us) (now vs) (now ws) × Assignment (meters * n) (now bits) × (length (now sums) ≡ 256) × ((i : ℕ) → getD (now sums) i 0 ≡ 0) ⌝ }
+    requires { ⌜ ((N : ℕ) × WithChoices N n (now us) (now vs) (now ws) × Assignment (N * n) (now bits) × (length (now sums) ≡ 256) × ((i : ℕ) → getD (now sums) i 0 ≡ 0)) ⌝ }
     requires { ⌜ (first ≤ length (now us)) × ((k : ℕ) → k < first → getD (now us) k 0 < m) ⌝ }
     ensures { λ _. ⌜ (length (now (sums .exit)) ≡ 256) × ((i : ℕ) → getD (now (sums .exit)) i 0 ≤ 65535 * first) × ((i : ℕ) → 1 ≤ i → i ≤ n → getD (now (sums .exit)) i 0 + heard (linksFrom (now (us .entry)) (now (vs .entry)) (now (ws .entry)) first (length (now (us .entry)) - first)) (bears n (now (bits .entry)) (now (plan .entry))) m i ≡ heard (linksOf (now (us .entry)) (now (vs .entry)) (now (ws .entry))) (bears n (now (bits .entry)) (now (plan .entry))) m i) ⌝ }
 {
@@ -70,12 +69,11 @@ fn gather_higher(
     us: &[u8],
     vs: &[u8],
     ws: &[u16],
-    meters: usize,
     n: usize,
     m: usize,
     first: usize,
 )
-    requires { ⌜ Lent meters n (now us) (now vs) (now ws) × Assignment (meters * n) (now bits) × (length (now sums) ≡ 256) × ((i : ℕ) → getD (now sums) i 0 ≤ 65535 * first) ⌝ }
+    requires { ⌜ ((N : ℕ) × WithChoices N n (now us) (now vs) (now ws) × Assignment (N * n) (now bits) × (length (now sums) ≡ 256) × ((i : ℕ) → getD (now sums) i 0 ≤ 65535 * first)) ⌝ }
     requires { ⌜ (first ≤ length (now us)) × ((k : ℕ) → first ≤ k → k < length (now us) → m ≤ getD (now us) k 0) × ((i : ℕ) → 1 ≤ i → i ≤ n → getD (now sums) i 0 + heard (linksFrom (now us) (now vs) (now ws) first (length (now us) - first)) (bears n (now bits) (now plan)) m i ≡ heard (linksOf (now us) (now vs) (now ws)) (bears n (now bits) (now plan)) m i) ⌝ }
     ensures { λ _. ⌜ (length (now (sums .exit)) ≡ 256) × ((i : ℕ) → 1 ≤ i → i ≤ n → getD (now (sums .exit)) i 0 ≡ heard (linksOf (now (us .entry)) (now (vs .entry)) (now (ws .entry))) (bears n (now (bits .entry)) (now (plan .entry))) m i) ⌝ }
 {
@@ -97,16 +95,15 @@ fn gather_heard(
     us: &[u8],
     vs: &[u8],
     ws: &[u16],
-    meters: usize,
     n: usize,
     m: usize,
 )
-    requires { ⌜ Lent meters n (now us) (now vs) (now ws) × Assignment (meters * n) (now bits) × (length (now sums) ≡ 256) × ((i : ℕ) → getD (now sums) i 0 ≡ 0) ⌝ }
+    requires { ⌜ ((N : ℕ) × WithChoices N n (now us) (now vs) (now ws) × Assignment (N * n) (now bits) × (length (now sums) ≡ 256) × ((i : ℕ) → getD (now sums) i 0 ≡ 0)) ⌝ }
     ensures { λ _. ⌜ (length (now (sums .exit)) ≡ 256) × ((i : ℕ) → 1 ≤ i → i ≤ n → getD (now (sums .exit)) i 0 ≡ heard (linksOf (now (us .entry)) (now (vs .entry)) (now (ws .entry))) (bears n (now (bits .entry)) (now (plan .entry))) m i) ⌝ }
 {
     let first = links::first_link(us, m);
-    gather_lower(sums, bits, plan, us, vs, ws, meters, n, m, first);
-    gather_higher(sums, bits, plan, us, vs, ws, meters, n, m, first);
+    gather_lower(sums, bits, plan, us, vs, ws, n, m, first);
+    gather_higher(sums, bits, plan, us, vs, ws, n, m, first);
 }
 
 // The channel of 1..n with the least sum, ties to the lowest.
@@ -133,14 +130,13 @@ pub fn quietest_at(
     us: &[u8],
     vs: &[u8],
     ws: &[u16],
-    meters: usize,
     n: usize,
     m: usize,
 ) -> usize
-    requires { ⌜ Lent meters n (now us) (now vs) (now ws) × Assignment (meters * n) (now bits) ⌝ }
+    requires { ⌜ ((N : ℕ) × WithChoices N n (now us) (now vs) (now ws) × Assignment (N * n) (now bits)) ⌝ }
     ensures { λ r. ⌜ r ≡ quietest n (linksOf (now (us .entry)) (now (vs .entry)) (now (ws .entry))) (now (bits .entry)) (now (plan .entry)) m ⌝ }
 {
     let mut sums: [u64; 256] = [0; 256];
-    gather_heard(&mut sums[..256], bits, plan, us, vs, ws, meters, n, m);
+    gather_heard(&mut sums[..256], bits, plan, us, vs, ws, n, m);
     least_sum(&sums[..256], n)
 }

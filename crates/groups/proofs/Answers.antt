@@ -1,26 +1,29 @@
 -- Laws that the proofs of src/lib.rt cite: the sum of weights gives A, and the tests that the code makes decide what the definitions ask. Assumes nothing.
 use Prim.Native.Nat.{ℕ, _+_, _*_, _≤_}
-use mathlib.Core.Path.{_≡_, refl, ap, _∙_}
+use mathlib.Core.Path.{_≡_, refl, _∙_}
+use mathlib.Core.Logic.{_↔_}
 use mathlib.Core.Bool.{true, false}
 use mathlib.Core.List.{List}
 use native.Mathlib.Omega.{arith}
 use lib.Dec.{eqb}
 use lib.ListN.{length}
-use borrow.Author.Tests.{eq-eqb, ne-eqb, eqb-true}
+use borrow.Author.Tests.{eq-eqb, eqb-true}
 use Rattle.lists.specs.Sums.{sumOf}
 use Rattle.lists.proofs.Tests.{and-left, same-test}
 use Rattle.links.specs.Links.{Link, linksOf}
 use Rattle.links.proofs.Total.{total-weights}
 use Rattle.qubo.specs.Formula.{Assignment}
+use Rattle.qubo.specs.Best.{CodesPlan}
+use Rattle.qubo.specs.Decoding.{answerOf, planAfter}
+use Rattle.qubo.specs.declared.Decoded.the-variants.{Plan, NoPlan}
+use Rattle.qubo.proofs.Decoding.{codes-exactly, none-decoded, plan-decoded}
 use Rattle.onehot.specs.Choices.{bitAt, areChoices, candidate}
 use Rattle.groups.specs.Sizes.{spread, equallyLarge}
 use Rattle.groups.specs.Formula.{penalty, bracket}
-use Rattle.groups.specs.Plans.{membersOf, isPlan, cutWeight}
-use Rattle.groups.specs.Decoding.{codesPlan, answerOf, planAfter}
-use Rattle.groups.specs.declared.Decoded.the-variants.{Plan, NoPlan}
+use Rattle.groups.specs.Plans.{membersOf, isPlan, codeOf, cutWeight}
+use Rattle.groups.specs.Instance.{instance}
 use Rattle.groups.proofs.SizeLemma.{spread-level, large-level}
-use Rattle.groups.proofs.Bracket.{bracket-exactly}
-use Rattle.groups.proofs.AnyPenalty.{codes-exactly}
+use Rattle.groups.proofs.Bracket.{candidate-plan, bracket-exactly}
 
 -- ---- penalty_of
 
@@ -55,23 +58,14 @@ module _ (N m : ℕ) (p : List ℕ) where
   unfolding isPlan
   plan-choices e = and-left (areChoices N m p) _ e
 
--- ---- decode
+-- ---- decode: the bracket, which is r, decides what bits decode to, whatever A is
 
-module _ (N m : ℕ) (m1 : 1 ≤ m) (x : List ℕ) (a : Assignment (N * m) x) where
-  -- bits code a plan exactly where the bracket is 0
-  codes-test : codesPlan N m x ≡ eqb (bracket N m (bitAt m x)) 0
-  codes-test =
-      same-test (codesPlan N m x) (eqb (bracket N m (bitAt m x)) 0)
-      (λ e. eq-eqb (bracket N m (bitAt m x)) 0 (bracket-exactly N m m1 x a .1 (codes-exactly N m x .0 e)))
-      (λ e. codes-exactly N m x .1 (bracket-exactly N m m1 x a .0 (eqb-true (bracket N m (bitAt m x)) 0 e)))
+module _ (N m : ℕ) (ls : List Link) (m1 : 1 ≤ m) (x : List ℕ) (a : Assignment (N * m) x) (r : ℕ) (is : r ≡ bracket N m (bitAt m x)) where
+  zero-coded : (r ≡ 0) ↔ CodesPlan (isPlan N m) (codeOf m) x
+  zero-coded = rw is (bracket-exactly N m m1 x a)
 
-  module _ (ls : List Link) (plan : List ℕ) (r : ℕ) (is : r ≡ bracket N m (bitAt m x)) where
-    -- it is not 0: no plan, and the lent plan is as it was
-    pub decode-none : (r ≡ 0 → ⊥) → (NoPlan ≡ answerOf N m ls x) × (plan ≡ planAfter N m x plan)
-    unfolding answerOf planAfter
-    decode-none n = rw (codes-test, ← is, ne-eqb r 0 n) (refl, refl)
+  pub none-read : (r ≡ 0 → ⊥) → (q : List ℕ) (A : ℕ) → (NoPlan ≡ answerOf (instance A N m ls) x) × (q ≡ planAfter (instance A N m ls) x q)
+  none-read n q A = none-decoded (instance A N m ls) x (codes-exactly (isPlan N m) (codeOf m) (candidate N m) (candidate-plan N m) x) r zero-coded n q
 
-    -- it is 0: the candidate, and its cut weight
-    pub decode-plan : r ≡ 0 → (q : List ℕ) (w : ℕ) → q ≡ candidate N m x → w ≡ cutWeight ls q → (Plan w ≡ answerOf N m ls x) × (q ≡ planAfter N m x plan)
-    unfolding answerOf planAfter
-    decode-plan z q w e d = rw (codes-test, ← is, eq-eqb r 0 z) (ap (λ (t : ℕ). Plan t) (d ∙ ap (cutWeight ls) e), e)
+  pub plan-read : r ≡ 0 → (q p : List ℕ) (w : ℕ) → p ≡ candidate N m x → w ≡ cutWeight ls p → (A : ℕ) → (Plan w ≡ answerOf (instance A N m ls) x) × (p ≡ planAfter (instance A N m ls) x q)
+  plan-read z q p w e c A = plan-decoded (instance A N m ls) x (codes-exactly (isPlan N m) (codeOf m) (candidate N m) (candidate-plan N m) x) r zero-coded z q p w e c

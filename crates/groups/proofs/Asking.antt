@@ -1,5 +1,5 @@
 -- What this crate asks of its caller, out of the tests that the caller makes. Assumes nothing.
-use Prim.Native.Nat.{ℕ, _^_, _≤_}
+use Prim.Native.Nat.{ℕ, _*_, _≤_, _<_}
 use mathlib.Core.Bool.{true}
 use mathlib.Core.Path.{_≡_}
 use mathlib.Core.List.{List}
@@ -8,11 +8,11 @@ use lib.ListN.{length}
 use native.Mathlib.Omega.{arith}
 use borrow.Author.Tests.{leb-true}
 use Rattle.lists.proofs.Tests.{and-left, and-right}
-use Rattle.links.specs.Links.{Link, linksOf}
+use Rattle.links.specs.Links.{Link, total}
 use Rattle.links.specs.Survey.{Survey, Arrays}
 use Rattle.links.proofs.Walk.{arrays-few}
 use Rattle.links.proofs.Total.{total-small}
-use Rattle.onehot.specs.Lent.{Lent}
+use Rattle.onehot.specs.Inner.{WithChoices}
 use Rattle.groups.specs.Formula.{withinLimits, penalty}
 
 -- "m from 2 to 16", as the facts that are asked for: at least 1, and at most 16
@@ -24,20 +24,21 @@ pub limit-high : (m : ℕ) → withinLimits m ≡ true → m ≤ 16
 unfolding withinLimits
 limit-high m w = leb-true m 16 (and-right (leb 2 m) _ w)
 
--- 01's A is small
-pub penalty-small : (N : ℕ) (ls : List Link) → Survey N ls → penalty ls ≤ 2 ^ 32
+-- 01's A is above twice the sum of all weights, as demand 3 asks
+pub penalty-heavy : (ls : List Link) → 2 * total ls < penalty ls
+unfolding penalty
+penalty-heavy ls = omega arith
+
+-- and at most 33,553,921, far below the 2^32 that demand 2 allows
+pub penalty-small : (N : ℕ) (ls : List Link) → Survey N ls → penalty ls ≤ 33553921
 unfolding penalty
 penalty-small N ls s = omega (arith, total-small N ls s)
 
 module _ (N : ℕ) (us vs ws : List ℕ) (a : Arrays N us vs ws) where
   -- `allows` and the arrays that site's read gives are all that is asked
-  pub lent : (m : ℕ) → withinLimits m ≡ true → Lent N m us vs ws
+  pub lent : (m : ℕ) → withinLimits m ≡ true → WithChoices N m us vs ws
   lent m w = record { arrays = a; low = limit-low m w; high = limit-high m w }
 
   -- `penalty_of` is lent at most 256 weights
   pub weights-few : length ws ≤ 256
   weights-few = omega (arith, a .same-w, arrays-few N us vs ws a)
-
-  -- what it gives is small enough
-  pub penalty-fits : (A : ℕ) → A ≡ penalty (linksOf us vs ws) → A ≤ 2 ^ 32
-  penalty-fits A e = omega (arith, e, penalty-small N (linksOf us vs ws) (a .survey))

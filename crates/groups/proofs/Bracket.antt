@@ -9,12 +9,12 @@ use Rattle.lists.specs.Sums.{sumTo, same, nth}
 use Rattle.lists.proofs.Tests.{and-left, and-right, and-both}
 use Rattle.lists.proofs.Sums.{sumTo-eq, sumTo-swap, sumTo-same, sumTo-const}
 use Rattle.qubo.specs.Formula.{Assignment}
+use Rattle.qubo.specs.Best.{CodesPlan}
 use Rattle.onehot.specs.Choices.{bitAt, areChoices, code, candidate}
-use Rattle.onehot.proofs.Codes.{Choices, choices-are, are-choices, bit-code, one-each, Hot, misses-hot}
-use Rattle.onehot.proofs.Candidates.{candidate-choices, candidate-coded}
-use Rattle.groups.specs.Formula.{sizeIn, bracket}
+use Rattle.onehot.proofs.Codes.{Choices, choices-are, are-choices, bit-code, code-bits, one-each, Hot, misses-hot}
+use Rattle.onehot.proofs.Candidates.{candidate-choices, candidate-code, candidate-coded}
+use Rattle.groups.specs.Formula.{bitCount, sizeIn, bracket}
 use Rattle.groups.specs.Plans.{membersOf, isPlan, codeOf}
-use Rattle.groups.specs.Best.{CodesPlan}
 use Rattle.groups.proofs.SizeLemma.{Level, spread-level, large-level, level-eq, level-sum}
 
 -- ---- the test of a plan, as facts
@@ -33,6 +33,18 @@ plan-split N m p e = record {
 pub split-plan : (N m : ℕ) (p : List ℕ) → Split N m p → isPlan N m p ≡ true
 unfolding isPlan
 split-plan N m p s = and-both (areChoices N m p) _ (are-choices N m p (s .choices)) (large-level m (membersOf N p) .1 (s .level))
+
+-- ---- its code
+
+-- is an assignment
+pub code-assignment : (N m : ℕ) (p : List ℕ) → isPlan N m p ≡ true → Assignment (bitCount N m) (codeOf m p)
+unfolding codeOf
+code-assignment N m p e = code-bits N m p (plan-split N m p e .choices)
+
+-- whose candidate is that plan
+pub candidate-plan : (N m : ℕ) (p : List ℕ) → isPlan N m p ≡ true → candidate N m (codeOf m p) ≡ p
+unfolding codeOf
+candidate-plan N m p e = candidate-code N m p (plan-split N m p e .choices)
 
 -- ---- the bracket
 
@@ -76,7 +88,7 @@ module _ (N m : ℕ) (m1 : 1 ≤ m) (x : List ℕ) (a : Assignment (N * m) x) (z
             (bracket-zero N m (bitAt m x) .0 z .1);
       })
 
-pub bracket-exactly : (N m : ℕ) → 1 ≤ m → (x : List ℕ) → Assignment (N * m) x → bracket N m (bitAt m x) ≡ 0 ↔ CodesPlan N m x
+pub bracket-exactly : (N m : ℕ) → 1 ≤ m → (x : List ℕ) → Assignment (N * m) x → (bracket N m (bitAt m x) ≡ 0) ↔ CodesPlan (isPlan N m) (codeOf m) x
 bracket-exactly N m m1 x a = (
   λ z. record { plan = candidate N m x; ok = bracket-plan N m m1 x a z; codes = bracket-coded N m m1 x a z },
   λ c. rw (c .codes) (plan-bracket N m (c .plan) (c .ok)),

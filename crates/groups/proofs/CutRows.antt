@@ -23,7 +23,7 @@ use Rattle.qubo.proofs.RowAction.{add-absent, absent-eachOf, add-only}
 use Rattle.qubo.proofs.RowShapes.{unequal-absent}
 use Rattle.qubo.proofs.RowWalk.{Walked, walked-start, walked-room, walked-turn, walked-stop, walked-end}
 use Rattle.onehot.specs.Choices.{bitNumber}
-use Rattle.onehot.specs.Lent.{Lent}
+use Rattle.onehot.specs.Inner.{WithChoices}
 use Rattle.onehot.proofs.Rows.{bit-meter, bit-choice, own-bit, higher-bit, higher-inside}
 use Rattle.onehot.proofs.LinkTerms.{left, left-all, left-next, left-none}
 use Rattle.groups.specs.Formula.{linkCuts, cutTerms}
@@ -94,7 +94,7 @@ cutsAt m us vs ws k = linkCuts m (linkIn us vs ws k)
 abbrev pub Added : ℕ → ℕ → List ℕ → List ℕ → List ℕ → List ℤ → List ℤ → ℕ → Type 0
 Added m i us vs ws row₀ row k = Walked (2 ^ 61) (left (linkCuts m) us vs ws) (length us) i row₀ row k
 
-module _ (N m i : ℕ) (us vs ws : List ℕ) (lent : Lent N m us vs ws) where
+module _ (N m i : ℕ) (us vs ws : List ℕ) (lent : WithChoices N m us vs ws) where
   -- the link at k adds nothing where neither end is the meter of bit i
   other-nothing : (k : ℕ) → k < length us → (getD us k 0 ≡ i / m + 1 → ⊥) → (getD vs k 0 ≡ i / m + 1 → ⊥) → (r : List ℤ) → addTerms (cutsAt m us vs ws k) i r ≡ r
   unfolding linkIn

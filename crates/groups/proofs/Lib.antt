@@ -3,7 +3,6 @@ pub mod Bracket
 pub mod Twice
 pub mod Worth
 pub mod Bound
-pub mod AnyPenalty
 pub mod Dealt
 pub mod Asking
 pub mod Demands

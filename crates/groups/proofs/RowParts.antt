@@ -11,14 +11,14 @@ use Rattle.qubo.specs.Rows.{zeros, addTerms, Room}
 use Rattle.qubo.proofs.Families.{norm-append}
 use Rattle.qubo.proofs.RowAction.{row-next, row-top, row-room}
 use Rattle.onehot.specs.Choices.{oneHots}
-use Rattle.onehot.specs.Lent.{Lent}
+use Rattle.onehot.specs.Inner.{WithChoices}
 use Rattle.onehot.proofs.Penalty.{one-hots-small}
 use Rattle.onehot.proofs.Rows.{row-hots}
 use Rattle.groups.specs.Formula.{sizeTerms, cutTerms, formula}
 use Rattle.groups.proofs.Bound.{sizes-small, cuts-small}
 
 -- r is the row of zeros, s and t that after the penalty and after the size differences
-module _ (A N m i : ℕ) (us vs ws : List ℕ) (lent : Lent N m us vs ws) (small : A ≤ 2 ^ 32) (L : ℕ) (top : i + L ≡ N * m) (r : List ℤ) (none : r ≡ zeros L) where
+module _ (A N m i : ℕ) (us vs ws : List ℕ) (lent : WithChoices N m us vs ws) (small : A ≤ 2 ^ 32) (L : ℕ) (top : i + L ≡ N * m) (r : List ℤ) (none : r ≡ zeros L) where
   module _ (s : List ℤ) (hots : s ≡ addTerms (oneHots A N m) i r) where
     so-far : s ≡ rowOf (oneHots A N m) (N * m) i
     so-far = row-hots A N m i us vs ws lent small L top r none s hots

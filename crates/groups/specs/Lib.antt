@@ -1,5 +1,4 @@
 pub mod Sizes
 pub mod Formula
 pub mod Plans
-pub mod Decoding
-pub mod Best
+pub mod Instance

@@ -8,10 +8,11 @@ ghost use lib.ListN.{length, drop};
 ghost use Rattle.links.specs.Links.{Link, linksOf};
 ghost use Rattle.qubo.specs.Formula.{Assignment, value};
 ghost use Rattle.qubo.specs.Table.{constantOf, rowOf};
-ghost use Rattle.onehot.specs.Lent.{Lent};
+ghost use Rattle.qubo.specs.Decoding.{answerOf, planAfter};
+ghost use Rattle.onehot.specs.Inner.{WithChoices};
 ghost use Rattle.groups.specs.Formula.{withinLimits, bitCount, penalty, formula};
 ghost use Rattle.groups.specs.Plans.{isPlan, codeOf};
-ghost use Rattle.groups.specs.Decoding.{answerOf, planAfter};
+ghost use Rattle.groups.specs.Instance.{instance};
 
 mod cuts;
 mod rows;
@@ -44,12 +45,6 @@ impl Groups {
     }
 }
 
-// What bits decode to: a plan, with its cut weight, or none. The plan itself lies in the lent buffer.
-pub enum Decoded {
-    Plan { weight: u64 },
-    NoPlan,
-}
-
 // A: 1 plus twice the sum of all weights, whatever their ends are.
 pub fn penalty_of(ws: &[u16]) -> u64
     requires { ⌜ length (now ws) ≤ 256 ⌝ }
@@ -58,10 +53,10 @@ pub fn penalty_of(ws: &[u16]) -> u64
     1 + 2 * links::total_weight(ws)
 }
 
-// The constant of the table, whatever the links are: A for each meter.
-pub fn constant(meters: usize, m: usize, penalty: u64) -> i64
+// The constant of the table, whatever m and the links are: A for each meter.
+pub fn constant(meters: usize, penalty: u64) -> i64
     requires { ⌜ (meters ≤ 48) × (penalty ≤ 2 ^ 32) ⌝ }
-    ensures { λ r. ⌜ ((ls : List Link) → r ≡ constantOf (formula penalty meters m ls)) ⌝ }
+    ensures { λ r. ⌜ ((m : ℕ) (ls : List Link) → r ≡ constantOf (formula penalty meters m ls)) ⌝ }
 {
     let sum = penalty * (meters as u64);
     sum as i64
@@ -78,7 +73,7 @@ pub fn fill_row(
     i: usize,
     out: &mut [i64],
 )
-    requires { ⌜ Lent meters m (now us) (now vs) (now ws) × (penalty ≤ 2 ^ 32) × (i < bitCount meters m) × (bitCount meters m ≤ i + length (now out)) ⌝ }
+    requires { ⌜ WithChoices meters m (now us) (now vs) (now ws) × (penalty ≤ 2 ^ 32) × (i < bitCount meters m) × (bitCount meters m ≤ i + length (now out)) ⌝ }
     ensures { λ _. ⌜ now (out .exit) ≡ rowOf (formula penalty meters m (linksOf (now (us .entry)) (now (vs .entry)) (now (ws .entry)))) (bitCount meters m) i ++ drop (bitCount meters m - i) (now (out .entry)) ⌝ }
 {
     let len = meters * m - i;
@@ -95,11 +90,11 @@ pub fn energy(
     m: usize,
     penalty: u64,
 ) -> i64
-    requires { ⌜ Lent meters m (now us) (now vs) (now ws) × (penalty ≤ 2 ^ 32) × Assignment (bitCount meters m) (now bits) ⌝ }
+    requires { ⌜ WithChoices meters m (now us) (now vs) (now ws) × (penalty ≤ 2 ^ 32) × Assignment (bitCount meters m) (now bits) ⌝ }
     ensures { λ r. ⌜ r ≡ value (formula penalty meters m (linksOf (now (us .entry)) (now (vs .entry)) (now (ws .entry)))) (now (bits .entry)) ⌝ }
 {
     let broken = sizes::bracket_of(bits, meters, m);
-    let cutting = cuts::cutting(bits, us, vs, ws, meters, m);
+    let cutting = cuts::cutting(bits, us, vs, ws, m);
     let sum = penalty * broken + cutting;
     sum as i64
 }
@@ -123,7 +118,7 @@ pub fn encode(plan: &[u8], meters: usize, m: usize, bits: &mut [u8])
     onehot::encode(plan, meters, m, bits);
 }
 
-// The plan that an assignment codes, if any: bits code a plan exactly where the bracket is 0, and it is then read off.
+// The plan that an assignment codes, if any, whatever A is: bits code a plan exactly where the bracket is 0, and it is then read off.
 pub fn decode(
     bits: &[u8],
     us: &[u8],
@@ -132,15 +127,15 @@ pub fn decode(
     meters: usize,
     m: usize,
     plan: &mut [u8],
-) -> Decoded
-    requires { ⌜ Lent meters m (now us) (now vs) (now ws) × Assignment (bitCount meters m) (now bits) × (length (now plan) ≡ meters) ⌝ }
-    ensures answer { λ r. ⌜ r ≡ answerOf meters m (linksOf (now (us .entry)) (now (vs .entry)) (now (ws .entry))) (now (bits .entry)) ⌝ }
-    ensures plan { λ r. ⌜ now (plan .exit) ≡ planAfter meters m (now (bits .entry)) (now (plan .entry)) ⌝ }
+) -> qubo::Decoded
+    requires { ⌜ WithChoices meters m (now us) (now vs) (now ws) × Assignment (bitCount meters m) (now bits) × (length (now plan) ≡ meters) ⌝ }
+    ensures answer { λ r. ⌜ ((A : ℕ) → r ≡ answerOf (instance A meters m (linksOf (now (us .entry)) (now (vs .entry)) (now (ws .entry)))) (now (bits .entry))) ⌝ }
+    ensures plan { λ _. ⌜ ((A : ℕ) → now (plan .exit) ≡ planAfter (instance A meters m (linksOf (now (us .entry)) (now (vs .entry)) (now (ws .entry)))) (now (bits .entry)) (now (plan .entry))) ⌝ }
 {
     if sizes::bracket_of(bits, meters, m) != 0 {
-        return Decoded::NoPlan;
+        return qubo::Decoded::NoPlan;
     }
     onehot::read_off(bits, meters, m, plan);
-    let weight = cuts::cut_weight(plan, us, vs, ws, meters);
-    Decoded::Plan { weight: weight }
+    let weight = cuts::cut_weight(plan, us, vs, ws);
+    qubo::Decoded::Plan { weight: weight }
 }

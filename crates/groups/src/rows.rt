@@ -6,7 +6,7 @@ ghost use lib.IntN.{pos, natAbs};
 ghost use Rattle.links.specs.Links.{linksOf};
 ghost use Rattle.qubo.specs.Table.{rowOf};
 ghost use Rattle.qubo.specs.Rows.{addTerms, Room};
-ghost use Rattle.onehot.specs.Lent.{Lent};
+ghost use Rattle.onehot.specs.Inner.{WithChoices};
 ghost use Rattle.groups.specs.Formula.{sizeTerms, cutTerms, formula};
 
 // Adds A times the sum over pairs of groups of (size difference)² to row i. The group of bit i differs in size from m - 1 others:
@@ -34,9 +34,9 @@ fn add_sizes(row: &mut [i64], i: usize, meters: usize, m: usize, penalty: u64)
     qubo::add_run(row, i, own, more as i64);
 }
 
-// Adds what the links cut to row i: those at the meter of bit i, each at the group of bit i. None from the first on whose lower end is above that meter has an end there.
-fn add_cuts(row: &mut [i64], us: &[u8], vs: &[u8], ws: &[u16], meters: usize, m: usize, i: usize)
-    requires { ⌜ Lent meters m (now us) (now vs) (now ws) × (i + length (now row) ≡ meters * m) × (i < meters * m) ⌝ }
+// Adds what the links cut to row i, however many meters there are: those at the meter of bit i, each at the group of bit i. None from the first on whose lower end is above that meter has an end there.
+fn add_cuts(row: &mut [i64], us: &[u8], vs: &[u8], ws: &[u16], m: usize, i: usize)
+    requires { ⌜ ((N : ℕ) × WithChoices N m (now us) (now vs) (now ws) × (i + length (now row) ≡ N * m) × (i < N * m)) ⌝ }
     requires { ⌜ Room (2 ^ 61) (cutTerms m (linksOf (now us) (now vs) (now ws))) (now row) ⌝ }
     ensures { λ _. ⌜ now (row .exit) ≡ addTerms (cutTerms m (linksOf (now (us .entry)) (now (vs .entry)) (now (ws .entry)))) i (now (row .entry)) ⌝ }
 {
@@ -68,11 +68,11 @@ pub fn row_into(
     penalty: u64,
     i: usize,
 )
-    requires { ⌜ Lent meters m (now us) (now vs) (now ws) × (penalty ≤ 2 ^ 32) × (i + length (now row) ≡ meters * m) × (i < meters * m) ⌝ }
+    requires { ⌜ WithChoices meters m (now us) (now vs) (now ws) × (penalty ≤ 2 ^ 32) × (i + length (now row) ≡ meters * m) × (i < meters * m) ⌝ }
     ensures { λ _. ⌜ now (row .exit) ≡ rowOf (formula penalty meters m (linksOf (now (us .entry)) (now (vs .entry)) (now (ws .entry)))) (meters * m) i ⌝ }
 {
     qubo::clear(row);
-    onehot::add_one_hots(row, i, meters, m, penalty);
+    onehot::add_one_hots(row, i, m, penalty);
     add_sizes(row, i, meters, m, penalty);
-    add_cuts(row, us, vs, ws, meters, m, i);
+    add_cuts(row, us, vs, ws, m, i);
 }

@@ -1,12 +1,13 @@
 -- Three arrays side by side that hold links. Assumes nothing.
 use Prim.Native.Nat.{ℕ, zero, suc, _+_, _≤_, _<_}
-use mathlib.Core.Bool.{Bool, true}
+use mathlib.Core.Bool.{Bool, true, _&&_, _||_}
 use mathlib.Core.Path.{_≡_, refl, sym, ap, _∙_, subst}
 use mathlib.Core.List.{List, [], _∷_}
-use lib.ListN.{length, length-map}
+use lib.ListN.{length, getD, length-map}
+use lib.Dec.{eqb}
 use native.Mathlib.Omega.{arith}
-use Rattle.lists.specs.Tests.{all}
-use Rattle.links.specs.Links.{Link, linkOk, endsU, endsV, weights, linkIn, linksFrom, linksOf}
+use Rattle.lists.specs.Tests.{all, any}
+use Rattle.links.specs.Links.{Link, linkOk, hasEnds, present, endsU, endsV, weights, linkIn, linksFrom, linksOf}
 use Rattle.links.specs.Survey.{LinkOf, Survey, Arrays}
 use Rattle.lists.proofs.Tests.{Equal, equal, other, equal?, all-head, all-tail}
 use Rattle.links.proofs.Altered.{link-of}
@@ -49,6 +50,16 @@ pub links-of-fields : (ls : List Link) → linksOf (endsU ls) (endsV ls) (weight
 unfolding linksOf linksFrom linkIn endsU endsV weights
 links-of-fields [] = refl
 links-of-fields (l ∷ ls) = ap (λ (xs : List Link). l ∷ xs) (from-tails (l .u) (l .v) (l .weight) (endsU ls) (endsV ls) (weights ls) 0 (length (endsU ls)) ∙ links-of-fields ls)
+
+-- whether there is a link with the ends a and b is the same with all weights
+present-from : (a b : ℕ) (us vs ws xs : List ℕ) (n k : ℕ) → present a b (linksFrom us vs ws k n) ≡ present a b (linksFrom us vs xs k n)
+unfolding present any hasEnds linksFrom linkIn
+present-from a b us vs ws xs zero k = refl
+present-from a b us vs ws xs (suc n) k = ap (λ (t : Bool). (eqb (getD us k 0) a && eqb (getD vs k 0) b) || t) (present-from a b us vs ws xs n (suc k))
+
+pub present-any : (a b : ℕ) (us vs ws xs : List ℕ) → present a b (linksOf us vs ws) ≡ present a b (linksOf us vs xs)
+unfolding linksOf
+present-any a b us vs ws xs = present-from a b us vs ws xs (length us) 0
 
 -- a survey's links, put into arrays
 pub arrays-of : (N : ℕ) (ls : List Link) → Survey N ls → Arrays N (endsU ls) (endsV ls) (weights ls)

@@ -11,7 +11,7 @@ use Rattle.lists.specs.Tests.{all}
 use Rattle.lists.specs.Sums.{sumOf}
 use Rattle.lists.proofs.Members.{sumOf-eq, sumOf-bound}
 use Rattle.links.specs.Links.{Link, linkOk, linkIn, linksFrom, linksOf}
-use Rattle.links.specs.Survey.{LinkOf, Arrays}
+use Rattle.links.specs.Survey.{LinkOf, Arrays, Ends}
 use Rattle.links.proofs.Altered.{link-in}
 use Rattle.links.proofs.Arrays.{arrays-at, length-linksOf}
 
@@ -26,6 +26,13 @@ link-at N us vs ws a k h = (arrays-at N us vs ws a k h .u-low, arrays-at N us vs
 -- at most 256 links
 pub arrays-few : (N : ℕ) (us vs ws : List ℕ) → Arrays N us vs ws → length us ≤ 256
 arrays-few N us vs ws a = omega (arith, a .survey .few, length-linksOf us vs ws)
+
+-- the same where the weights are not given
+pub ends-at : (N : ℕ) (us vs : List ℕ) → Ends N us vs → (k : ℕ) → k < length us → (1 ≤ getD us k 0) × (getD us k 0 < getD vs k 0) × (getD vs k 0 ≤ N)
+ends-at N us vs e k h = let l = link-at N us vs (e .weights) (e .arrays) k h in (l .0, l .1, l .2)
+
+pub few-links : (N : ℕ) (us vs : List ℕ) → Ends N us vs → length us ≤ 256
+few-links N us vs e = arrays-few N us vs (e .weights) (e .arrays)
 
 -- ---- a sum over the links from index k on
 

@@ -29,6 +29,11 @@ pub record Arrays (N : ℕ) (us vs ws : List ℕ) : Type 0 where
   pub same-w : length ws ≡ length us
   pub survey : Survey N (linksOf us vs ws)
 
+-- the first two of such arrays: there are weights with which they hold the links of a survey
+pub record Ends (N : ℕ) (us vs : List ℕ) : Type 0 where
+  pub weights : List ℕ
+  pub arrays : Arrays N us vs weights
+
 -- no lower end is below an earlier one: the first array of a survey's links
 abbrev pub Rising : List ℕ → Type 0
 Rising us = (j k : ℕ) → j ≤ k → k < length us → getD us j 0 ≤ getD us k 0

@@ -1,9 +1,10 @@
 -- Rows of neighbour-count bits: which meter a bit is of, and that the one-hot penalty adds to row i the term of that meter alone, or nothing where i is before those bits. Assumes nothing.
-use Prim.Native.Nat.{ℕ, suc, pred, _+_, _-_, _*_, _/_, _%_, _^_, _≤_, _<_}
-use mathlib.Core.Path.{_≡_, sym, ap, _∙_, fun-ext}
+use Prim.Native.Nat.{ℕ, suc, pred, _+_, _-_, _*_, _/_, _^_, _≤_, _<_}
+use mathlib.Core.Path.{_≡_, refl, sym, ap, _∙_, fun-ext}
 use mathlib.Core.List.{List, [], _∷_}
 use native.Mathlib.Omega.{arith}
-use native.Mathlib.Nat.{mul-one, mul-le-mul, div-add-mod'}
+use native.Mathlib.Nat.{mul-one, mul-le-mul}
+use native.Mathlib.Numerals.{add-one}
 use lib.IntN.{ℤ, pos}
 use lib.ListN.{length}
 use Rattle.qubo.specs.Formula.{Term}
@@ -16,8 +17,9 @@ use Rattle.onehot.proofs.Rows.{bit-meter, meter-inside, partRun}
 use Rattle.onehot.proofs.Parts.{part-within}
 use Rattle.arcs.specs.Arcs.{arcsEnd}
 use Rattle.arcs.proofs.RowRoom.{room-for}
+use Rattle.arcs.proofs.Slices.{counts-few}
 use Rattle.neighbours.specs.Formula.{countBit, countTerms}
-use Rattle.neighbours.specs.Walks.{countStart, TableRow}
+use Rattle.neighbours.specs.Inner.{countStart, TableRow}
 
 -- ---- bit i, behind those of depths and arcs, is that of a meter and a count
 
@@ -31,10 +33,6 @@ module _ (N D M d i : ℕ) (behind : arcsEnd N D M ≤ i) where
 
   pub count-inside : 1 ≤ d → i < arcsEnd N D M + N * d → off / d < N
   count-inside h l = meter-inside N d off h (omega arith)
-
-  -- the first bit of that meter
-  own-start : arcsEnd N D M + off / d * d ≡ i - off % d
-  own-start = omega (arith, div-add-mod' off d)
 
 -- ---- the term of a meter, over the run of its bits
 
@@ -64,22 +62,32 @@ module _ (A N D M d i : ℕ) (r : List ℤ) (b : ℕ) (is : b ≡ arcsEnd N D M)
     within : i < arcsEnd N D M + N * d
     within = omega (arith, row .whole, row .own)
 
-    -- the bits of the meter of bit i
-    start-is : countStart N D M d (suc ((i - arcsEnd N D M) / d)) ≡ i - (i - b) % d
-    start-is = own-start N D M d i after ∙ ap (λ (k : ℕ). i - (i - k) % d) (sym is)
+    -- what count_meter asks, and its answer m
+    pub counts-short : N ≤ 48 → d ≤ 47 → b ≤ 13488 → i ≤ 2 ^ 32
+    counts-short n h low = omega (arith, within, counts-few N d n h)
 
-    pub counts-own : addTerms (runOneHot (pos A) (partRun d (i - (i - b) % d)) ∷ []) i r ≡ addTerms (countTerms A N D M d) i r
-    unfolding countTerms
-    counts-own =
-        sym (add-only N (λ v. oneHot (pos A) d (countBit N D M d v) ∷ []) (suc ((i - arcsEnd N D M) / d)) i r (omega arith) (count-inside N D M d i after d1 within)
-        (λ v p q ne. term-absent A N D M d i v (λ j a c e. ne (omega (arith, count-meter N D M d i after v j p a c e))))
-        ∙ ap (λ (t : Term). addTerms (t ∷ []) i r) (meter-term A N D M d (suc ((i - arcsEnd N D M) / d)) ∙ ap (λ (k : ℕ). runOneHot (pos A) (partRun d k)) start-is))
+    module _ (m : ℕ) (meter : m ≡ (i - b) / d + 1) where
+      meter-is : m ≡ suc ((i - arcsEnd N D M) / d)
+      meter-is = meter ∙ rw (add-one, is) refl
 
-    pub counts-ready : N ≤ 48 → d ≤ 47 → b ≤ 13488 → RunBelow (partRun d (i - (i - b) % d)) (i + length r) × Room (2 ^ 61) (runOneHot (pos A) (partRun d (i - (i - b) % d)) ∷ []) r
-    counts-ready n h low =
-        let f = part-within d ((i - arcsEnd N D M) / d) N (count-inside N D M d i after d1 within) in
-        let g : N * d ≤ 48 * 47 = mul-le-mul n h in
-        let few : 1 + d ≤ 48 = omega arith in (
-          record { apart = omega arith; inside = λ t l. omega (arith, row .whole, start-is); end = omega (arith, start-is) },
-          room-for _ r (row .small) (omega (arith, one-hot-norm (pos A) d (λ t. i - (i - b) % d + pred t * 1), mul-le-mul (row .penalty) (mul-le-mul few few))),
-        )
+      pub meter-high : m ≤ N
+      meter-high = rw meter-is (count-inside N D M d i after d1 within)
+
+      -- where the bits of that meter start
+      module _ (s : ℕ) (start : s ≡ countStart N D M d m) where
+        pub counts-own : addTerms (runOneHot (pos A) (partRun d s) ∷ []) i r ≡ addTerms (countTerms A N D M d) i r
+        unfolding countTerms
+        counts-own =
+            sym (add-only N (λ v. oneHot (pos A) d (countBit N D M d v) ∷ []) m i r (omega arith) meter-high
+            (λ v p q ne. term-absent A N D M d i v (λ j a c e. ne (omega (arith, meter-is, count-meter N D M d i after v j p a c e))))
+            ∙ ap (λ (t : Term). addTerms (t ∷ []) i r) (meter-term A N D M d m ∙ ap (λ (k : ℕ). runOneHot (pos A) (partRun d k)) (sym start)))
+
+        pub counts-ready : N ≤ 48 → d ≤ 47 → b ≤ 13488 → RunBelow (partRun d s) (i + length r) × Room (2 ^ 61) (runOneHot (pos A) (partRun d s) ∷ []) r
+        counts-ready n h low =
+            let f = part-within d ((i - arcsEnd N D M) / d) N (count-inside N D M d i after d1 within) in
+            let e : s ≡ arcsEnd N D M + (i - arcsEnd N D M) / d * d = start ∙ ap (countStart N D M d) meter-is in
+            let g = counts-few N d n h in
+            let few : 1 + d ≤ 48 = omega arith in (
+              record { apart = omega arith; inside = λ t l. omega (arith, row .whole); end = omega arith },
+              room-for _ r (row .small) (omega (arith, one-hot-norm (pos A) d (λ t. s + pred t * 1), mul-le-mul (row .penalty) (mul-le-mul few few))),
+            )

@@ -26,7 +26,7 @@ use Rattle.arcs.specs.Arcs.{Arc, arcs, arcBit, arcAt}
 use Rattle.arcs.proofs.Bound.{square-le, arcs-touching, tested-norm}
 use Rattle.arcs.proofs.Worth.{tested-value, bits-less, weighted-value, square-value, one-hot-pos, each-times}
 use Rattle.neighbours.specs.Formula.{countBit, countAt, countTerms, touching, degreeTerm, degreeTerms, touchesOf, degreeGaps}
-use Rattle.neighbours.specs.Walks.{degreeEntries}
+use Rattle.neighbours.specs.Inner.{degreeEntries}
 
 -- ---- (1 - neighbour-count bits)² of each meter
 

@@ -15,11 +15,11 @@ use Rattle.qubo.specs.Terms.{over, bits}
 use Rattle.qubo.proofs.Families.{sumEach, sumOver, sumEach-none, sumEach-only, sumOver-each, coef-sum, coef-append, coef-bits}
 use Rattle.qubo.proofs.TableValue.{only-same, only-other}
 use Rattle.arcs.specs.Arcs.{Arc, arcsFrom, arcs, arcBit, arcsEnd}
-use Rattle.arcs.specs.Places.{IsArc}
+use Rattle.arcs.specs.Inner.{IsArc}
 use Rattle.arcs.proofs.ArcLists.{arc-high, sumOver-none, sumOver-arc}
 use Rattle.arcs.proofs.BitsApart.{arc-above, arc-below, arc-number}
 use Rattle.neighbours.specs.Formula.{touching}
-use Rattle.neighbours.specs.Walks.{numbered, countStart, degreeEntries}
+use Rattle.neighbours.specs.Inner.{numbered, countStart, degreeEntries}
 use Rattle.neighbours.proofs.CountRows.{count-meter}
 
 -- ---- the numbered bits

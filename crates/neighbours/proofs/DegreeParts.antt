@@ -9,8 +9,8 @@ use native.Mathlib.Nat.{mul-one, mul-le-mul, mul-le-mul-left, mul-le-mul-right, 
 use lib.Dec.{eqb}
 use lib.ListN.{length, getD}
 use lib.IntN.{ℤ, pos, negsuc, natAbs, _+ℤ_, _-ℤ_, _*ℤ_, *ℤ-zero}
-use Rattle.links.specs.Links.{linksOf}
-use Rattle.links.proofs.Walk.{arrays-few}
+use Rattle.links.specs.Survey.{Ends}
+use Rattle.links.proofs.Walk.{few-links}
 use Rattle.qubo.specs.Formula.{Formula}
 use Rattle.qubo.specs.Table.{only, coef}
 use Rattle.qubo.specs.Norm.{entriesNorm, formulaNorm}
@@ -26,11 +26,11 @@ use Rattle.qubo.proofs.Runs.{run-lacks}
 use Rattle.qubo.proofs.RowShapes.{bits-times-norm}
 use Rattle.qubo.proofs.RowWalk.{Walked, walked-first, walked-room, walked-turn, walked-end}
 use Rattle.qubo.proofs.Turns.{less-abs}
-use Rattle.arcs.specs.Arcs.{Arc, arcs, arcBit, arcsEnd}
-use Rattle.arcs.specs.Lent.{Lent}
+use Rattle.arcs.specs.Arcs.{Arc, arcBit, arcsEnd}
+use Rattle.arcs.specs.Inner.{arcsBetween}
 use Rattle.arcs.proofs.ArcLists.{arcUp, arcBack, arcsLeft, arcs-start, arcs-turn, arcs-end}
 use Rattle.neighbours.specs.Formula.{touching}
-use Rattle.neighbours.specs.Walks.{numbered, linkRun, linkPart, Roomy}
+use Rattle.neighbours.specs.Inner.{numbered, linkRun, linkPart, Roomy}
 use Rattle.neighbours.proofs.CountValue.{numbered-norm}
 
 -- ---- add_numbered: bit by bit
@@ -231,7 +231,10 @@ link-within D k n h = omega (arith, mul-le-mul-right D (let l : 2 * k + 2 ≤ 2 
 abbrev pub Touched : ℕ → ℕ → ℕ → ℕ → List ℕ → List ℕ → ℤ → List ℤ → List ℤ → ℕ → Type 0
 Touched N D m i us vs q row₀ row k = Walked (2 ^ 61) (partsLeft N D m i us vs (pos 0 -ℤ q)) (length us) i row₀ row k
 
-module _ (N D m i : ℕ) (us vs ws : List ℕ) (lent : Lent N D us vs ws) (q : ℤ) (row₀ : List ℤ) (space : Roomy q i row₀) where
+module _ (N D m i : ℕ) (us vs : List ℕ) (ends : Ends N us vs) (deep : D ≤ 24) (q : ℤ) (row₀ : List ℤ) (space : Roomy q i row₀) where
+  few : length us ≤ 256
+  few = few-links N us vs ends
+
   abbrev partAt : ℕ → Formula
   partAt k = linkPart (getD us k 0) (getD vs k 0) m (pos 0 -ℤ q) i (linkRun N D k)
 
@@ -254,8 +257,8 @@ module _ (N D m i : ℕ) (us vs ws : List ℕ) (lent : Lent N D us vs ws) (q : �
       space .small k,
       parts-norm N D m us vs (pos 0 -ℤ q) i 0 (length us - 0),
       less-abs q,
-      mul-le-mul {n₂ = 256} {m₂ = 206158430208} (let h : length us - 0 ≤ 256 = omega (arith, arrays-few N us vs ws (lent .arrays)) in h)
-          (mul-le-mul {n₂ = 4294967296} {m₂ = 48} (let h : natAbs (pos 0 -ℤ q) ≤ 4294967296 = omega (arith, less-abs q, space .factor) in h) (let h : 2 * D ≤ 48 = omega (arith, lent .deep) in h)),
+      mul-le-mul {n₂ = 256} {m₂ = 206158430208} (let h : length us - 0 ≤ 256 = omega (arith, few) in h)
+          (mul-le-mul {n₂ = 4294967296} {m₂ = 48} (let h : natAbs (pos 0 -ℤ q) ≤ 4294967296 = omega (arith, less-abs q, space .factor) in h) (let h : 2 * D ≤ 48 = omega arith in h)),
     );
   }
 
@@ -266,20 +269,20 @@ module _ (N D m i : ℕ) (us vs ws : List ℕ) (lent : Lent N D us vs ws) (q : �
       (λ k l r. part-under (getD us k 0) (getD vs k 0) m (pos 0 -ℤ q) i (linkRun N D k) (λ t g. omega (arith, link-within D k from l)) r) all-room
 
   module _ (row : List ℤ) (k : ℕ) (w : Touched N D m i us vs q row₀ row k) where
-    pub touched-end : length us ≤ k → row ≡ addTerms (times q i (over (arcs (linksOf us vs ws)) (touching N D m)) ∷ []) i row₀
+    pub touched-end : length us ≤ k → row ≡ addTerms (times q i (over (arcsBetween us vs) (touching N D m)) ∷ []) i row₀
     unfolding partsLeft
     touched-end h =
         walked-end _ partAt left _ _ left-next left-none row₀ row k h w
-        ∙ sym (rw (arcs-start us vs ws) at (parts-added N D m us vs ws q i (length us - 0) 0 (omega arith) row₀))
+        ∙ sym (rw (arcs-start us vs []) at (parts-added N D m us vs [] q i (length us - 0) 0 (omega arith) row₀))
 
     module _ (h : k < length us) where
       -- the next link's bits lie in the table, and there is room for its part
       pub touched-ready : arcsEnd N D (length us) ≤ i + length row₀ → (N ≤ 48) × (D ≤ 24) × (k ≤ 256) × RunBelow (linkRun N D k) (i + length row) × Room (2 ^ 61) (partAt k) row
       touched-ready top =
           let g = link-within D k (length us) h in (
-            lent .arrays .survey .meters-high,
-            lent .deep,
-            omega (arith, arrays-few N us vs ws (lent .arrays)),
+            ends .arrays .survey .meters-high,
+            deep,
+            omega (arith, few),
             record { apart = omega arith; inside = λ t l. omega (arith, w .size); end = omega (arith, space .short) },
             walked-room _ partAt left _ _ left-next left-none row₀ row k h w,
           )

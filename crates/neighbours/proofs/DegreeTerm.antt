@@ -6,8 +6,8 @@ use native.Mathlib.Omega.{arith}
 use native.Mathlib.Nat.{mul-le-mul}
 use lib.ListN.{length, getD}
 use lib.IntN.{ℤ, pos, natAbs, _-ℤ_, _*ℤ_}
-use Rattle.links.specs.Links.{linksOf}
-use Rattle.links.proofs.Walk.{arrays-few}
+use Rattle.links.specs.Survey.{Ends}
+use Rattle.links.proofs.Walk.{few-links}
 use Rattle.qubo.specs.Table.{coef}
 use Rattle.qubo.specs.Terms.{over, sum, bit, single, times}
 use Rattle.qubo.specs.Rows.{addTerms, Room}
@@ -17,11 +17,11 @@ use Rattle.qubo.proofs.RowAction.{add-two, add-length, added-abs}
 use Rattle.qubo.proofs.RowTerms.{own, product-split, square-row, single-norm}
 use Rattle.qubo.proofs.Turns.{less-abs}
 use Rattle.onehot.proofs.Parts.{part-within}
-use Rattle.arcs.specs.Arcs.{Arc, arcs, arcsEnd}
-use Rattle.arcs.specs.Lent.{Lent}
+use Rattle.arcs.specs.Arcs.{Arc, arcsEnd}
+use Rattle.arcs.specs.Inner.{arcsBetween}
 use Rattle.neighbours.specs.Formula.{touching, degreeTerm}
-use Rattle.neighbours.specs.Walks.{numbered, countStart, degreeEntries, TableRow, Roomy}
-use Rattle.arcs.proofs.Slices.{ends-is, ends-few}
+use Rattle.neighbours.specs.Inner.{numbered, countStart, degreeEntries, TableRow, Roomy}
+use Rattle.arcs.proofs.Slices.{bits-few}
 use Rattle.neighbours.proofs.DegreeParts.{numbered-small}
 
 -- the three parts
@@ -36,14 +36,6 @@ degree-row A N D M d ks m i c r e =
     ∙ product-split q (bit i) (pos 0) (numbered d (countStart N D M d m)) (over ks (touching N D m)) i (addTerms (single o i ∷ []) i r)
     ∙ ap (λ z. addTerms (times q i (over ks (touching N D m)) ∷ []) i (addTerms (times q i (numbered d (countStart N D M d m)) ∷ []) i (addTerms (single z i ∷ []) i r)))
     (solve (var 0 ⊗ (con (pos 0) ⊗ var 1 ⊕ var 1 ⊗ con (pos 0) ⊖ var 1 ⊗ var 1)) (con (pos 0) ⊖ var 0 ⊗ var 1 ⊗ var 1) tt (pos A ∷ c ∷ []))
-
--- the first neighbour-count bit of a meter, as it is computed
-pub start-is : (N D M d m b : ℕ) → 1 ≤ m → b ≡ arcsEnd N D M → b + (m - 1) * d ≡ countStart N D M d m
-start-is N D M d zero b h e = absurd (omega arith)
-start-is N D M d (suc m) b h e = let g : suc m - 1 ≡ m = omega arith in rw (g, e) refl
-
-pub start-low : (N d m : ℕ) → N ≤ 48 → d ≤ 47 → m ≤ N → (m - 1) * d ≤ 2256
-start-low N d m a b h = mul-le-mul {n₂ = 48} {m₂ = 47} (omega arith) b
 
 -- ---- the numbers, with A ≤ 20,000,000 and |c| ≤ 47
 
@@ -68,7 +60,7 @@ module _ (A : ℕ) (c : ℤ) (A-low : A ≤ 20000000) (c-low : natAbs c ≤ 47) 
 
 -- ---- add_degree: bit i itself gets `here`, q is the factor of the others, and the meter's neighbour-count bits begin at `first`
 
-module _ (A N D d i m : ℕ) (us vs ws : List ℕ) (lent : Lent N D us vs ws) (d47 : d ≤ 47) (m1 : 1 ≤ m) (mN : m ≤ N) (c : ℤ) (c-low : natAbs c ≤ 47) (r : List ℤ) (row : TableRow (3 * 2 ^ 58) N D (length us) d A i r)
+module _ (A N D d i m : ℕ) (us vs : List ℕ) (ends : Ends N us vs) (deep : D ≤ 24) (d47 : d ≤ 47) (m1 : 1 ≤ m) (mN : m ≤ N) (c : ℤ) (c-low : natAbs c ≤ 47) (r : List ℤ) (row : TableRow (3 * 2 ^ 58) N D (length us) d A i r)
     (here : ℤ) (here-is : here ≡ pos 0 -ℤ pos A *ℤ c *ℤ c) (q : ℤ) (q-is : q ≡ pos 2 *ℤ (pos A *ℤ c)) (first : ℕ) (first-is : first ≡ countStart N D (length us) d m) where
   here-low : natAbs here ≤ 2 ^ 36
   here-low = rw here-is (omega (arith, less-abs (pos A *ℤ c *ℤ c), square-low A c (row .penalty) c-low))
@@ -85,9 +77,7 @@ module _ (A N D d i m : ℕ) (us vs ws : List ℕ) (lent : Lent N D us vs ws) (d
 
   short : i + length r ≤ 2 ^ 32
   short =
-      let e = ends-few N D (length us) (lent .arrays .survey .meters-high) (lent .deep) (arrays-few N us vs ws (lent .arrays)) in
-      let g : N * d ≤ 48 * 47 = mul-le-mul (lent .arrays .survey .meters-high) d47 in
-      omega (arith, row .whole, ends-is N D (length us))
+      omega (arith, row .whole, bits-few N D (length us) d (ends .arrays .survey .meters-high) deep (few-links N us vs ends) d47)
 
   pub single-ready : (i < i + length r) × Room (2 ^ 61) (single here i ∷ []) r
   single-ready = (omega (arith, row .own), record { room = λ k. omega (arith, row .small k, single-norm here i, here-low) })
@@ -114,19 +104,20 @@ module _ (A N D d i m : ℕ) (us vs ws : List ℕ) (lent : Lent N D us vs ws) (d
       second-small : (k : ℕ) → natAbs (getD t k (pos 0)) ≤ 2 ^ 60
       second-small k = rw f (omega (arith, first-small k, added-abs (times q i (numbered d first) ∷ []) i s k, numbered-small q i d d first d47 (omega arith), q-low))
 
-      pub touching-ready : (from : ℕ) → from ≤ length us → arcsEnd N D from ≤ i → Lent N D us vs ws × (arcsEnd N D (length us) ≤ i + length t) × Roomy q i t × (from ≤ length us) × (arcsEnd N D from ≤ i) × (m ≤ 48)
+      pub touching-ready : (from : ℕ) → from ≤ length us → arcsEnd N D from ≤ i → Ends N us vs × (D ≤ 24) × (arcsEnd N D (length us) ≤ i + length t) × Roomy q i t × (from ≤ length us) × (arcsEnd N D from ≤ i) × (m ≤ 48)
       touching-ready from inside under = (
-        lent,
+        ends,
+        deep,
         omega (arith, second-length, row .whole),
         record { small = second-small; factor = q-low; short = omega (arith, second-length, short) },
         inside,
         under,
-        omega (arith, mN, lent .arrays .survey .meters-high),
+        omega (arith, mN, ends .arrays .survey .meters-high),
       )
 
-      pub degree-done : coef (degreeEntries N D (length us) d (arcs (linksOf us vs ws)) m) i ≡ c → (z : List ℤ) → z ≡ addTerms (times q i (over (arcs (linksOf us vs ws)) (touching N D m)) ∷ []) i t
-          → z ≡ addTerms (degreeTerm A N D (length us) d (arcs (linksOf us vs ws)) m ∷ []) i r
+      pub degree-done : coef (degreeEntries N D (length us) d (arcsBetween us vs) m) i ≡ c → (z : List ℤ) → z ≡ addTerms (times q i (over (arcsBetween us vs) (touching N D m)) ∷ []) i t
+          → z ≡ addTerms (degreeTerm A N D (length us) d (arcsBetween us vs) m ∷ []) i r
       degree-done h z g =
-          g ∙ ap (addTerms (times q i (over (arcs (linksOf us vs ws)) (touching N D m)) ∷ []) i) (f ∙ ap (addTerms (times q i (numbered d first) ∷ []) i) e)
+          g ∙ ap (addTerms (times q i (over (arcsBetween us vs) (touching N D m)) ∷ []) i) (f ∙ ap (addTerms (times q i (numbered d first) ∷ []) i) e)
           ∙ rw (q-is, here-is, first-is) refl
-          ∙ sym (degree-row A N D (length us) d (arcs (linksOf us vs ws)) m i c r h)
+          ∙ sym (degree-row A N D (length us) d (arcsBetween us vs) m i c r h)

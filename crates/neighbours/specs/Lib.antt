@@ -1,2 +1,2 @@
 pub mod Formula
-pub mod Walks
+pub mod Inner

@@ -1,4 +1,5 @@
 // Neighbour-count bits, the last ones of the table: d for each meter. What their one-hot penalty adds to a row, and its sum in an assignment.
+use arcs::layout;
 ghost use Prim.Native.Nat.{_+_, _*_, _^_, _≤_};
 ghost use mathlib.Core.Path.{_≡_};
 ghost use Rattle.qubo.specs.Formula.{Assignment};
@@ -6,17 +7,9 @@ ghost use Rattle.qubo.specs.Rows.{addTerms};
 ghost use Rattle.onehot.specs.Choices.{misses};
 ghost use Rattle.arcs.specs.Arcs.{arcsEnd};
 ghost use Rattle.neighbours.specs.Formula.{countAt, countTerms};
-ghost use Rattle.neighbours.specs.Walks.{TableRow};
+ghost use Rattle.neighbours.specs.Inner.{TableRow};
 
-// The first of them.
-pub fn first_count(meters: usize, deepest: usize, links: usize) -> usize
-    requires { ⌜ (meters ≤ 48) × (deepest ≤ 24) × (links ≤ 256) ⌝ }
-    ensures { λ r. ⌜ (r ≡ arcsEnd meters deepest links) × (r ≤ 13488) ⌝ }
-{
-    meters * (deepest + 1) + 2 * links * deepest
-}
-
-// Adds A times the sum over meters of (1 - neighbour-count bits)² to row i: only the meter whose bit i is has a term there.
+// Adds A times the sum over meters of (1 - neighbour-count bits)² to row i. A neighbour-count bit belongs to one meter, and only that meter's square has it; no other bit is in any.
 pub fn add_counts(
     row: &mut [i64],
     i: usize,
@@ -29,13 +22,13 @@ pub fn add_counts(
     requires { ⌜ (1 ≤ d) × (d ≤ 47) × (meters ≤ 48) × (deepest ≤ 24) × (links ≤ 256) × TableRow (2 ^ 59) meters deepest links d penalty i (now row) ⌝ }
     ensures { λ _. ⌜ now (row .exit) ≡ addTerms (countTerms penalty meters deepest links d) i (now (row .entry)) ⌝ }
 {
-    let base = first_count(meters, deepest, links);
+    let base = layout::arcs_end(meters, deepest, links);
     if i < base {
         return;
     }
-    let first = i - (i - base) % d;
+    let meter = layout::count_meter(base, d, i);
     let run = qubo::Run {
-        start: first,
+        start: layout::count_start(meters, deepest, links, d, meter),
         step: 1,
         count: d,
     };
@@ -47,6 +40,6 @@ pub fn count_misses(bits: &[u8], meters: usize, deepest: usize, links: usize, d:
     requires { ⌜ (meters ≤ 48) × (deepest ≤ 24) × (links ≤ 256) × (d ≤ 47) × Assignment (arcsEnd meters deepest links + meters * d) (now bits) ⌝ }
     ensures { λ r. ⌜ (r ≡ misses meters d (countAt meters deepest links d (now (bits .entry)))) × (r ≤ 106032) ⌝ }
 {
-    let base = first_count(meters, deepest, links);
+    let base = layout::arcs_end(meters, deepest, links);
     onehot::misses_of(&bits[base..], meters, d)
 }

@@ -1,26 +1,24 @@
 // The neighbours of each meter: what the squares of (sum of j over its neighbour-count bits set - all arc bits in or out of it) add to a row, and their sum in an assignment.
-use crate::counts;
-use arcs::places::Place;
+use arcs::layout;
+use arcs::layout::Place;
 ghost use Prim.Native.Nat.{ℕ, _+_, _*_, _^_, _≤_, _<_};
 ghost use mathlib.Core.Path.{_≡_};
 ghost use mathlib.Core.Bool.{_||_};
-ghost use mathlib.Core.List.{[], _∷_};
+ghost use mathlib.Core.List.{List, [], _∷_};
 ghost use lib.Dec.{eqb};
 ghost use lib.ListN.{length, getD, set};
 ghost use lib.IntN.{pos, natAbs, _-ℤ_, _*ℤ_};
 ghost use Rattle.lists.specs.Sums.{sumTo, gap, nth};
 ghost use Rattle.links.specs.Links.{linksOf};
+ghost use Rattle.links.specs.Survey.{Ends};
 ghost use Rattle.qubo.specs.Formula.{Bits, Assignment};
 ghost use Rattle.qubo.specs.Table.{coef};
 ghost use Rattle.qubo.specs.Terms.{over, times};
 ghost use Rattle.qubo.specs.Rows.{addTerms, RunBelow, Room};
-ghost use Rattle.onehot.specs.Choices.{bitAt};
 ghost use Rattle.arcs.specs.Arcs.{arcs, arcsEnd, arcAt};
-ghost use Rattle.arcs.specs.Lent.{Lent};
-ghost use Rattle.arcs.specs.Places.{IsPlace};
-ghost use Rattle.arcs.specs.Walks.{Used};
+ghost use Rattle.arcs.specs.Inner.{WithPlace, arcsBetween, Used};
 ghost use Rattle.neighbours.specs.Formula.{countAt, touching, degreeTerm, degreeTerms, touchesOf, degreeGaps};
-ghost use Rattle.neighbours.specs.Walks.{numbered, degreeEntries, linkRun, linkPart, TableRow, Roomy};
+ghost use Rattle.neighbours.specs.Inner.{numbered, degreeEntries, linkRun, linkPart, TableRow, Roomy};
 
 // x times y.
 fn mul(x: i64, y: i64) -> i64
@@ -48,7 +46,7 @@ fn link_run(meters: usize, deepest: usize, k: usize) -> qubo::Run
     requires { ⌜ (meters ≤ 48) × (deepest ≤ 24) × (k ≤ 256) ⌝ }
     ensures { λ r. ⌜ r ≡ linkRun meters deepest k ⌝ }
 {
-    let start = arcs::places::arc_start(meters, deepest, 2 * k);
+    let start = layout::arc_start(meters, deepest, 2 * k);
     qubo::Run {
         start: start,
         step: 1,
@@ -93,15 +91,14 @@ fn add_touching(
     i: usize,
     us: &[u8],
     vs: &[u8],
-    ws: &[u16],
     meters: usize,
     deepest: usize,
     from: usize,
     meter: usize,
     q: i64,
 )
-    requires { ⌜ Lent meters deepest (now us) (now vs) (now ws) × (arcsEnd meters deepest (length (now us)) ≤ i + length (now row)) × Roomy q i (now row) × (from ≤ length (now us)) × (arcsEnd meters deepest from ≤ i) × (meter ≤ 48) ⌝ }
-    ensures { λ _. ⌜ now (row .exit) ≡ addTerms (times q i (over (arcs (linksOf (now (us .entry)) (now (vs .entry)) (now (ws .entry)))) (touching meters deepest meter)) ∷ []) i (now (row .entry)) ⌝ }
+    requires { ⌜ Ends meters (now us) (now vs) × (deepest ≤ 24) × (arcsEnd meters deepest (length (now us)) ≤ i + length (now row)) × Roomy q i (now row) × (from ≤ length (now us)) × (arcsEnd meters deepest from ≤ i) × (meter ≤ 48) ⌝ }
+    ensures { λ _. ⌜ now (row .exit) ≡ addTerms (times q i (over (arcsBetween (now (us .entry)) (now (vs .entry))) (touching meters deepest meter)) ∷ []) i (now (row .entry)) ⌝ }
 {
     let less = 0 - q;
     let end = meter as u8;
@@ -121,7 +118,7 @@ fn twice_of(penalty: u64, c: i64) -> i64
     mul(2, factor)
 }
 
-// -A c²: what makes of 2 A c² the A c² that a bit of coefficient c itself gets.
+// -A c². In the square a bit of coefficient c has A c² by itself. But its row is given 2 A c times every coefficient in the form, so 2 A c² at the bit itself; with this added, A c² is left.
 fn own_of(penalty: u64, c: i64) -> i64
     requires { ⌜ (penalty ≤ 20000000) × (natAbs c ≤ 47) ⌝ }
     ensures { λ r. ⌜ r ≡ pos 0 -ℤ pos penalty *ℤ c *ℤ c ⌝ }
@@ -137,7 +134,6 @@ fn add_degree(
     i: usize,
     us: &[u8],
     vs: &[u8],
-    ws: &[u16],
     meters: usize,
     deepest: usize,
     d: usize,
@@ -146,34 +142,33 @@ fn add_degree(
     meter: usize,
     c: i64,
 )
-    requires { ⌜ Lent meters deepest (now us) (now vs) (now ws) × (d ≤ 47) × (1 ≤ meter) × (meter ≤ meters) × (natAbs c ≤ 47) × TableRow (3 * 2 ^ 58) meters deepest (length (now us)) d penalty i (now row) ⌝ }
+    requires { ⌜ Ends meters (now us) (now vs) × (deepest ≤ 24) × (d ≤ 47) × (1 ≤ meter) × (meter ≤ meters) × (natAbs c ≤ 47) × TableRow (3 * 2 ^ 58) meters deepest (length (now us)) d penalty i (now row) ⌝ }
     requires { ⌜ (from ≤ length (now us)) × (arcsEnd meters deepest from ≤ i) ⌝ }
-    requires { ⌜ coef (degreeEntries meters deepest (length (now us)) d (arcs (linksOf (now us) (now vs) (now ws))) meter) i ≡ c ⌝ }
-    ensures { λ _. ⌜ now (row .exit) ≡ addTerms (degreeTerm penalty meters deepest (length (now (us .entry))) d (arcs (linksOf (now (us .entry)) (now (vs .entry)) (now (ws .entry)))) meter ∷ []) i (now (row .entry)) ⌝ }
+    requires { ⌜ coef (degreeEntries meters deepest (length (now us)) d (arcsBetween (now us) (now vs)) meter) i ≡ c ⌝ }
+    ensures { λ _. ⌜ now (row .exit) ≡ addTerms (degreeTerm penalty meters deepest (length (now (us .entry))) d (arcsBetween (now (us .entry)) (now (vs .entry))) meter ∷ []) i (now (row .entry)) ⌝ }
 {
     let own = own_of(penalty, c);
     let twice = twice_of(penalty, c);
-    let start = counts::first_count(meters, deepest, us.len()) + (meter - 1) * d;
+    let start = layout::count_start(meters, deepest, us.len(), d, meter);
     qubo::add_single(row, i, i, own);
     add_numbered(row, i, start, d, twice);
-    add_touching(row, i, us, vs, ws, meters, deepest, from, meter, twice);
+    add_touching(row, i, us, vs, meters, deepest, from, meter, twice);
 }
 
-// Adds A times the sum over meters of those squares to row i. A bit of a depth is in none of them, that of an arc in those of its two ends, a neighbour-count bit in that of its meter. Link k's arcs are number 2 k and 2 k + 1: the arc bits of links before an arc's are below its bit, and all are below a neighbour-count bit.
+// Adds A times the sum over meters of those squares to row i, whatever the weights are. A bit of a depth is in none of them, that of an arc in those of its two ends, a neighbour-count bit in that of its meter. Link k's arcs are number 2 k and 2 k + 1: the arc bits of links before an arc's are below its bit, and all are below a neighbour-count bit.
 pub fn add_degrees(
     row: &mut [i64],
     i: usize,
     place: Place,
     us: &[u8],
     vs: &[u8],
-    ws: &[u16],
     meters: usize,
     deepest: usize,
     d: usize,
     penalty: u64,
 )
-    requires { ⌜ Lent meters deepest (now us) (now vs) (now ws) × (1 ≤ d) × (d ≤ 47) × TableRow (2 ^ 59) meters deepest (length (now us)) d penalty i (now row) × IsPlace meters deepest (linksOf (now us) (now vs) (now ws)) i place ⌝ }
-    ensures { λ _. ⌜ now (row .exit) ≡ addTerms (degreeTerms penalty meters deepest (length (now (us .entry))) d (arcs (linksOf (now (us .entry)) (now (vs .entry)) (now (ws .entry))))) i (now (row .entry)) ⌝ }
+    requires { ⌜ WithPlace meters deepest (now us) (now vs) i place × (1 ≤ d) × (d ≤ 47) × TableRow (2 ^ 59) meters deepest (length (now us)) d penalty i (now row) ⌝ }
+    ensures { λ _. ⌜ ((ws : List ℕ) → now (row .exit) ≡ addTerms (degreeTerms penalty meters deepest (length (now (us .entry))) d (arcs (linksOf (now (us .entry)) (now (vs .entry)) ws))) i (now (row .entry))) ⌝ }
 {
     match place {
         Place::OfDepth { meter: _, depth: _ } => {}
@@ -184,15 +179,15 @@ pub fn add_degrees(
             ..
         } => {
             let k = number / 2;
-            add_degree(row, i, us, vs, ws, meters, deepest, d, penalty, k, u, -1);
-            add_degree(row, i, us, vs, ws, meters, deepest, d, penalty, k, v, -1);
+            add_degree(row, i, us, vs, meters, deepest, d, penalty, k, u, -1);
+            add_degree(row, i, us, vs, meters, deepest, d, penalty, k, v, -1);
         }
         Place::Behind => {
             let n = us.len();
-            let off = i - counts::first_count(meters, deepest, n);
-            let m = off / d + 1;
-            let j = (off % d + 1) as i64;
-            add_degree(row, i, us, vs, ws, meters, deepest, d, penalty, n, m, j);
+            let base = layout::arcs_end(meters, deepest, n);
+            let m = layout::count_meter(base, d, i);
+            let j = layout::count_number(base, d, i) as i64;
+            add_degree(row, i, us, vs, meters, deepest, d, penalty, n, m, j);
         }
     }
 }
@@ -205,19 +200,10 @@ fn add_count(sums: &mut [u64], m: usize, c: u64)
     sums[m] = sums[m] + c;
 }
 
-// The arc bits set in or out of each meter m, in place m, in one walk of the links; a meter's number is a byte.
-fn gather_touches(
-    sums: &mut [u64],
-    bits: &[u8],
-    used: &[u8],
-    us: &[u8],
-    vs: &[u8],
-    ws: &[u16],
-    meters: usize,
-    deepest: usize,
-)
-    requires { ⌜ Lent meters deepest (now us) (now vs) (now ws) × Bits (now bits) × (arcsEnd meters deepest (length (now us)) ≤ length (now bits)) × (length (now sums) ≡ 256) × ((m : ℕ) → getD (now sums) m 0 ≡ 0) × Used meters deepest (length (now us)) (now bits) (now used) ⌝ }
-    ensures { λ _. ⌜ (length (now (sums .exit)) ≡ 256) × ((m : ℕ) → getD (now (sums .exit)) m 0 ≡ touchesOf deepest (arcs (linksOf (now (us .entry)) (now (vs .entry)) (now (ws .entry)))) (arcAt meters deepest (now (bits .entry))) m) × ((m : ℕ) → getD (now (sums .exit)) m 0 ≤ 12288) ⌝ }
+// The arc bits set in or out of each meter m, in place m, in one walk of the links, whatever the bits are of which these are the counts; a meter's number is a byte.
+fn gather_touches(sums: &mut [u64], used: &[u8], us: &[u8], vs: &[u8])
+    requires { ⌜ ((N : ℕ) × Ends N (now us) (now vs)) × (length (now used) ≡ length (now us)) × ((k : ℕ) → getD (now used) k 0 ≤ 48) × (length (now sums) ≡ 256) × ((m : ℕ) → getD (now sums) m 0 ≡ 0) ⌝ }
+    ensures { λ _. ⌜ (length (now (sums .exit)) ≡ 256) × ((N D : ℕ) (x ws : List ℕ) → Used N D (length (now (us .entry))) x (now (used .entry)) → (m : ℕ) → getD (now (sums .exit)) m 0 ≡ touchesOf D (arcs (linksOf (now (us .entry)) (now (vs .entry)) ws)) (arcAt N D x) m) × ((m : ℕ) → getD (now (sums .exit)) m 0 ≤ 12288) ⌝ }
 {
     let mut k: usize = 0;
     while k < us.len() {
@@ -244,38 +230,35 @@ fn numbers_set(part: &[u8]) -> u64
 }
 
 // The sum over meters of the squared gaps between the sum of j over a meter's d bits set and what is counted in its place.
-fn gaps_of(sums: &[u64], bits: &[u8], meters: usize, d: usize) -> u64
-    requires { ⌜ (meters ≤ 48) × (d ≤ 47) × (meters < length (now sums)) × ((m : ℕ) → getD (now sums) m 0 ≤ 12288) × Assignment (meters * d) (now bits) ⌝ }
-    ensures { λ r. ⌜ (r ≡ sumTo meters (λ v. gap (sumTo d (λ j. j * bitAt d (now (bits .entry)) v j)) (getD (now (sums .entry)) v 0) * gap (sumTo d (λ j. j * bitAt d (now (bits .entry)) v j)) (getD (now (sums .entry)) v 0))) × (r ≤ 2 ^ 33) ⌝ }
+fn gaps_of(sums: &[u64], bits: &[u8], meters: usize, deepest: usize, links: usize, d: usize) -> u64
+    requires { ⌜ (meters ≤ 48) × (deepest ≤ 24) × (links ≤ 256) × (d ≤ 47) × Assignment (arcsEnd meters deepest links + meters * d) (now bits) × (meters < length (now sums)) × ((m : ℕ) → getD (now sums) m 0 ≤ 12288) ⌝ }
+    ensures { λ r. ⌜ (r ≡ sumTo meters (λ v. gap (sumTo d (λ j. j * countAt meters deepest links d (now (bits .entry)) v j)) (getD (now (sums .entry)) v 0) * gap (sumTo d (λ j. j * countAt meters deepest links d (now (bits .entry)) v j)) (getD (now (sums .entry)) v 0))) × (r ≤ 2 ^ 33) ⌝ }
 {
     let mut sum: u64 = 0;
     let mut v: usize = 0;
     while v < meters {
-        let start = v * d;
-        let end = start + d;
-        let counted = numbers_set(&bits[start..end]);
         v += 1;
+        let start = layout::count_start(meters, deepest, links, d, v);
+        let counted = numbers_set(&bits[start..start + d]);
         sum += onehot::gap_squared(counted, sums[v]);
     }
     sum
 }
 
-// Per meter (sum of j over its neighbour-count bits set - all arc bits in or out of it)².
+// Per meter (sum of j over its neighbour-count bits set - all arc bits in or out of it)², whatever the weights are.
 pub fn degree_gaps(
     bits: &[u8],
     used: &[u8],
     us: &[u8],
     vs: &[u8],
-    ws: &[u16],
     meters: usize,
     deepest: usize,
     d: usize,
 ) -> u64
-    requires { ⌜ Lent meters deepest (now us) (now vs) (now ws) × (d ≤ 47) × Assignment (arcsEnd meters deepest (length (now us)) + meters * d) (now bits) × Used meters deepest (length (now us)) (now bits) (now used) ⌝ }
-    ensures { λ r. ⌜ (r ≡ degreeGaps meters deepest d (arcs (linksOf (now (us .entry)) (now (vs .entry)) (now (ws .entry)))) (arcAt meters deepest (now (bits .entry))) (countAt meters deepest (length (now (us .entry))) d (now (bits .entry)))) × (r ≤ 2 ^ 33) ⌝ }
+    requires { ⌜ Ends meters (now us) (now vs) × (deepest ≤ 24) × (d ≤ 47) × Assignment (arcsEnd meters deepest (length (now us)) + meters * d) (now bits) × Used meters deepest (length (now us)) (now bits) (now used) ⌝ }
+    ensures { λ r. ⌜ ((ws : List ℕ) → r ≡ degreeGaps meters deepest d (arcs (linksOf (now (us .entry)) (now (vs .entry)) ws)) (arcAt meters deepest (now (bits .entry))) (countAt meters deepest (length (now (us .entry))) d (now (bits .entry)))) × (r ≤ 2 ^ 33) ⌝ }
 {
     let mut sums: [u64; 256] = [0; 256];
-    gather_touches(&mut sums[..256], bits, used, us, vs, ws, meters, deepest);
-    let base = counts::first_count(meters, deepest, us.len());
-    gaps_of(&sums[..256], &bits[base..], meters, d)
+    gather_touches(&mut sums[..256], used, us, vs);
+    gaps_of(&sums[..256], bits, meters, deepest, us.len(), d)
 }

@@ -11,7 +11,7 @@ use Rattle.links.specs.Links.{Link, linkIn, linksOf}
 use Rattle.links.specs.Survey.{Survey, Arrays}
 use Rattle.links.proofs.Walk.{link-at, Summed, summed-turn, summed-skip, summed-room, sum-bounded}
 use Rattle.onehot.specs.Choices.{bitAt, alikeWeight}
-use Rattle.onehot.specs.Lent.{Lent}
+use Rattle.onehot.specs.Inner.{WithChoices}
 
 -- ---- over a plan, where both ends are alike
 
@@ -70,5 +70,5 @@ module _ (f : ℕ → ℕ → ℕ) (n : ℕ) (x : List ℕ) where
     unfolding bitsLink linkIn
     bits-link = rw e (sym (sumTo-times n (getD ws k 0) (λ i. f (bitAt n x (getD us k 0) i) (bitAt n x (getD vs k 0) i))))
 
-    pub bits-room : ((u v i : ℕ) → f (bitAt n x u i) (bitAt n x v i) ≤ 1) → (N sum : ℕ) → Lent N n us vs ws → Summed us vs ws (bitsLink f n x) k sum → k < length us → sum + getD ws k 0 * r ≤ 268431360
+    pub bits-room : ((u v i : ℕ) → f (bitAt n x u i) (bitAt n x v i) ≤ 1) → (N sum : ℕ) → WithChoices N n us vs ws → Summed us vs ws (bitsLink f n x) k sum → k < length us → sum + getD ws k 0 * r ≤ 268431360
     bits-room one N sum a s h = omega (arith, bits-link, summed-room us vs ws (bitsLink f n x) k sum s h, bits-small one (a .high) N (linksOf us vs ws) (a .arrays .survey))

@@ -18,7 +18,7 @@ use Rattle.qubo.proofs.Runs.{run-lacks}
 use Rattle.qubo.proofs.RowShapes.{one-hot-absent}
 use Rattle.qubo.proofs.Turns.{one-hot-factor}
 use Rattle.onehot.specs.Choices.{bitNumber, oneHots}
-use Rattle.onehot.specs.Lent.{Lent}
+use Rattle.onehot.specs.Inner.{WithChoices}
 use Rattle.onehot.proofs.Penalty.{one-hots-small}
 use Rattle.onehot.proofs.Parts.{part-within}
 
@@ -121,7 +121,7 @@ module _ (A N n i : ℕ) (r : List ℤ) (n1 : 1 ≤ n) (h : i < N * n) where
 
 -- ---- the first part of a row: zeros, then the penalty
 
-module _ (A N n i : ℕ) (us vs ws : List ℕ) (lent : Lent N n us vs ws) (small : A ≤ 2 ^ 32) (L : ℕ) (top : i + L ≡ N * n) (r : List ℤ) (none : r ≡ zeros L) where
+module _ (A N n i : ℕ) (us vs ws : List ℕ) (lent : WithChoices N n us vs ws) (small : A ≤ 2 ^ 32) (L : ℕ) (top : i + L ≡ N * n) (r : List ℤ) (none : r ≡ zeros L) where
   pub hots-ready : (N * n ≤ i + length r) × Room (2 ^ 61) (oneHots A N n) r
   hots-ready =
       let e = row-none (N * n) L i r top none in (

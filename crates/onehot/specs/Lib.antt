@@ -1,2 +1,2 @@
 pub mod Choices
-pub mod Lent
+pub mod Inner

@@ -206,8 +206,8 @@ pub fn encode(plan: &[u8], meters: usize, n: usize, bits: &mut [u8])
 }
 
 // The weight of all links with the same choice at both ends: what clashes in a plan of channels, and what a plan of groups does not cut.
-pub fn alike_weight(plan: &[u8], us: &[u8], vs: &[u8], ws: &[u16], meters: usize) -> u64
-    requires { ⌜ Arrays meters (now us) (now vs) (now ws) × (length (now plan) ≡ meters) ⌝ }
+pub fn alike_weight(plan: &[u8], us: &[u8], vs: &[u8], ws: &[u16]) -> u64
+    requires { ⌜ Arrays (length (now plan)) (now us) (now vs) (now ws) ⌝ }
     ensures { λ r. ⌜ r ≡ alikeWeight (linksOf (now (us .entry)) (now (vs .entry)) (now (ws .entry))) (now (plan .entry)) ⌝ }
 {
     let mut sum: u64 = 0;
@@ -236,10 +236,10 @@ pub fn count_choices(counts: &mut [u64], plan: &[u8])
     }
 }
 
-// Adds A times the sum over meters of (1 - bits set at it)² to row i: only the meter whose bit i is has a term there.
-pub fn add_one_hots(row: &mut [i64], i: usize, meters: usize, n: usize, penalty: u64)
-    requires { ⌜ (1 ≤ n) × (i < meters * n) × (meters * n ≤ i + length (now row)) × (meters * n ≤ 2 ^ 32) × Room (2 ^ 61) (oneHots penalty meters n) (now row) ⌝ }
-    ensures { λ _. ⌜ now (row .exit) ≡ addTerms (oneHots penalty meters n) i (now (row .entry)) ⌝ }
+// Adds A times the sum over meters of (1 - bits set at it)² to row i, however many meters there are. Bit i belongs to one meter, and only that meter's square has it.
+pub fn add_one_hots(row: &mut [i64], i: usize, n: usize, penalty: u64)
+    requires { ⌜ ((N : ℕ) × (1 ≤ n) × (i < N * n) × (N * n ≤ i + length (now row)) × (N * n ≤ 2 ^ 32) × Room (2 ^ 61) (oneHots penalty N n) (now row)) ⌝ }
+    ensures { λ _. ⌜ ((N : ℕ) → i < N * n → now (row .exit) ≡ addTerms (oneHots penalty N n) i (now (row .entry))) ⌝ }
 {
     let first = i - i % n;
     let run = qubo::Run {

@@ -1,122 +1,145 @@
--- What an accepted image and a kind with its parameter have, and what the calls then give. Assumes nothing.
+-- What an accepted image and what is asked of it have, and what the calls then give. Assumes nothing.
 use Prim.Native.Nat.{ℕ, _+_, _-_, _≤_, _<_}
-use mathlib.Core.Bool.{Bool, true, false, _&&_, _||_, cond, not, true≢false}
+use mathlib.Core.Bool.{Bool, true, false, _&&_, cond, not, true≢false}
 use mathlib.Core.Logic.{_↔_}
-use mathlib.Core.Path.{_≡_, refl, sym, ap, _∙_}
-use mathlib.Core.List.{List, [], _∷_, _++_}
+use mathlib.Core.Path.{_≡_, refl, sym, ap, _∙_, subst}
+use mathlib.Core.List.{List, []}
 use lib.ListN.{length}
-use lib.Dec.{eqb, leb, ltb}
+use lib.Dec.{eqb}
 use lib.IntN.{ℤ}
 use native.Mathlib.Omega.{arith}
 use native.Mathlib.Decide.{ℕ-discrete}
-use borrow.Author.Tests.{not-false, ltb-false, eq-eqb, lt-leb, le-ltb}
+use borrow.Author.Tests.{eq-eqb, lt-leb, le-ltb}
 use Rattle.links.specs.Survey.{Survey}
 use Rattle.qubo.specs.Formula.{Bits, Assignment}
 use Rattle.qubo.specs.Table.{rowOf}
+use Rattle.qubo.specs.Instance.{Instance, CodesPlan}
 use Rattle.qubo.proofs.RowAction.{row-length}
+use Rattle.qubo.proofs.Plans.{Sound}
 use Rattle.site.specs.Layout.{meters}
-use Rattle.site.specs.Image.{valid, links}
-use Rattle.site.specs.Refusal.{refusal, unlessRefused}
-use Rattle.site.proofs.Refused.{kept, refusal-none, refusal-here, refusal-next, refusal-last}
-use Rattle.site.proofs.Valid.{links-survey}
-use Rattle.plans.specs.Kinds.{kindOf, limitsHold, decodes}
-use Rattle.plans.specs.Refusals.{MOST-BITS, badKind, areBits, kindTests, imageTests, rowTests, energyTests, codeTests, decodeTests}
-use Rattle.plans.specs.Calls.{rowNumber, rowPart, energyNumber, codeNumber, decodeNumber, bitsIn, formulaIn, isPlanIn, acceptNumberIn, rowNumberIn, rowPartIn, energyNumberIn, codeNumberIn, decodeNumberIn}
-use Rattle.plans.specs.Best.{Accepted, CodesPlanIn}
-use Rattle.plans.proofs.ByKind.{plan-length}
-use Rattle.plans.proofs.Earlier.{Alike, Stops, alike-none, stops-some, image-numbered}
-use Rattle.plans.proofs.Checked.{are-bits, row-within}
+use Rattle.site.specs.Image.{links}
+use Rattle.site.specs.Refusal.{unlessRefused}
+use Rattle.site.proofs.Refused.{kept, refusal-here, refusal-next, refusal-last}
+use Rattle.plans.specs.declared.Ask.{Ask}
+use Rattle.plans.specs.declared.Kind.{Kind}
+use Rattle.plans.specs.declared.Kind.the-variants.{Channels, Groups, Tree}
+use Rattle.plans.specs.Kinds.{kindOf, limitsHold, penaltyOf, penaltyAsked, instanceBy, instanceOf}
+use Rattle.plans.specs.Refusals.{MOST-BITS, areBits, siteIn, imageTests, rowTests, energyTests, codeTests, decodeTests}
+use Rattle.plans.specs.Calls.{instanceIn, acceptNumberIn, rowNumberIn, rowPartIn, energyNumberIn, codeNumberIn, decodeNumberIn}
+use Rattle.plans.specs.Best.{Accepted}
+use Rattle.plans.proofs.ByKind.{sound, asked-from, asked-small}
+use Rattle.plans.proofs.Earlier.{Alike, alike-none, stops-some, image-numbered}
+use Rattle.plans.proofs.Refusing.{are-bits, row-within}
+use Rattle.plans.proofs.Posed.{good-survey, good-limits, good-count}
 
 -- a valid image, limits that hold, and at most 8,192 bits
-pub record Facts (s : List ℕ) (k p : ℕ) : Type 0 where
-  pub is-valid : valid s ≡ true
+pub record Facts (s : List ℕ) (a : Ask) : Type 0 where
   pub survey : Survey (meters s) (links s)
-  pub limits : limitsHold (meters s) (kindOf k p) ≡ true
-  pub few : bitsIn s k p ≤ MOST-BITS
+  pub limits : limitsHold (meters s) (kindOf a) ≡ true
+  pub few : instanceIn s a .bits ≤ MOST-BITS
+  pub is-sound : Sound (instanceIn s a)
 
-or-right : (a b : Bool) → (a || b) ≡ false → b ≡ false
-or-right true b e = absurd (true≢false e)
-or-right false b e = e
+pub accepted-facts : (s : List ℕ) (a : Ask) → Accepted s a → Facts s a
+unfolding acceptNumberIn instanceOf
+accepted-facts s a ok =
+    let v = good-survey s a ok in
+    let l = good-limits s a ok in
+    record { survey = v; limits = l; few = good-count s a ok; is-sound = sound (siteIn s) v (penaltyAsked (siteIn s) a) (kindOf a) l (asked-small (siteIn s) v a) }
 
-pub accepted-facts : (s : List ℕ) (k p : ℕ) → Accepted s k p → Facts s k p
-unfolding acceptNumberIn imageTests kindTests badKind
-accepted-facts s k p a =
-    let e1 = refusal-none 0 _ _ a in
-    let e7 = refusal-none 6 _ _ (e1 .1) in
-    let e8 = refusal-none 7 _ _ (e7 .1) in
-    let v = not-false (valid s) (e1 .0) in
-    record {
-      is-valid = v;
-      survey = links-survey s v;
-      limits = not-false (limitsHold (meters s) (kindOf k p)) (or-right (not (leb 1 k && leb k 3)) _ (e7 .0));
-      few = ltb-false MOST-BITS (bitsIn s k p) (e8 .0);
-    }
+-- the same where the kind is known: k
+pub record Asked (s : List ℕ) (a : Ask) (k : Kind) : Type 0 where
+  pub survey : Survey (meters s) (links s)
+  pub limits : limitsHold (meters s) k ≡ true
+  pub from : penaltyOf (siteIn s) k ≤ penaltyAsked (siteIn s) a
+  pub is : instanceIn s a ≡ instanceBy (penaltyAsked (siteIn s) a) (siteIn s) k
+
+pub asked : (s : List ℕ) (a : Ask) → Accepted s a → (k : Kind) → kindOf a ≡ k → Asked s a k
+unfolding instanceOf
+asked s a ok k e =
+    let f = accepted-facts s a ok in
+    subst (Asked s a) e (record { survey = f .survey; limits = f .limits; from = asked-from (siteIn s) a; is = refl })
+
+pub is-channels : (a : Ask) → a .kind ≡ 1 → kindOf a ≡ Channels (a .parameter)
+unfolding kindOf
+is-channels a e = rw e refl
+
+pub is-groups : (a : Ask) → a .kind ≡ 2 → kindOf a ≡ Groups (a .parameter)
+unfolding kindOf
+is-groups a e = rw e refl
+
+pub is-tree : (a : Ask) → a .kind ≡ 3 → kindOf a ≡ Tree (a .parameter)
+unfolding kindOf
+is-tree a e = rw e refl
 
 -- ---- what the calls give where nothing is wrong
-
--- then only the later tests count
-accepted-then : (s : List ℕ) (k p : ℕ) → Accepted s k p → Alike (imageTests s k p) []
-unfolding acceptNumberIn
-accepted-then s k p a = alike-none (imageTests s k p) (image-numbered s k p) a
 
 -- bits that are each 0 or 1 pass the test
 bits-pass : (x : List ℕ) → Bits x → areBits x ≡ true
 bits-pass x b = are-bits x (λ k _. b k)
 
--- an assignment is not refused by 9 or 11
-pub energy-accepts : (s : List ℕ) (k p : ℕ) → Accepted s k p → (x : List ℕ) → Assignment (bitsIn s k p) x → energyNumberIn s k p x ≡ 0
-unfolding energyNumber energyTests
-energy-accepts s k p a x b =
-    accepted-then s k p a _
-    ∙ refusal-next 9 _ _ (ap not (eq-eqb (length x) (bitsIn s k p) (b .size)))
-    ∙ refusal-last 11 _ (ap not (bits-pass x (b .bits)))
-
--- a row below the bit count is not refused where there is room
-pub row-accepts : (s : List ℕ) (k p : ℕ) → Accepted s k p → (i room : ℕ) → i < bitsIn s k p → bitsIn s k p - i ≤ room → rowNumberIn s k p i room ≡ 0
-unfolding rowNumber rowTests
-row-accepts s k p a i room h r =
-    accepted-then s k p a _
-    ∙ refusal-next 10 _ _ (lt-leb (bitsIn s k p) i h)
-    ∙ refusal-last 9 _ (le-ltb room (bitsIn s k p - i) r)
-
 -- two lengths that are as needed
 pub both-lengths : (a b c d : ℕ) → a ≡ b → c ≡ d → not (eqb a b && eqb c d) ≡ false
 both-lengths a b c d e f = rw (eq-eqb a b e, eq-eqb c d f)
 
--- a plan is not refused where there are as many bits as its code has
-pub code-accepts : (s : List ℕ) (k p : ℕ) → Accepted s k p → (q x : List ℕ) → isPlanIn s k p q ≡ true → length x ≡ bitsIn s k p → codeNumberIn s k p q x ≡ 0
-unfolding codeNumber codeTests
-code-accepts s k p a q x e h =
-    accepted-then s k p a _
-    ∙ refusal-next 9 _ _ (both-lengths (length q) (meters s) (length x) (bitsIn s k p) (plan-length (meters s) (links s) (accepted-facts s k p a .survey) (kindOf k p) q e) h)
-    ∙ refusal-last 12 _ (ap not e)
+module _ (s : List ℕ) (a : Ask) (ok : Accepted s a) where
+  abbrev I : Instance
+  I = instanceIn s a
 
--- an assignment that decodes to a plan is not refused where there are N bytes for it
-pub decode-accepts : (s : List ℕ) (k p : ℕ) → Accepted s k p → (x q : List ℕ) → Assignment (bitsIn s k p) x → length q ≡ meters s → decodes (meters s) (links s) (kindOf k p) x ≡ true → decodeNumberIn s k p x q ≡ 0
-unfolding decodeNumber decodeTests
-decode-accepts s k p a x q b h d =
-    accepted-then s k p a _
-    ∙ refusal-next 9 _ _ (both-lengths (length x) (bitsIn s k p) (length q) (meters s) (b .size) h)
-    ∙ refusal-next 11 _ _ (ap not (bits-pass x (b .bits)))
-    ∙ refusal-last 12 _ (ap not d)
+  -- then only the later tests count
+  accepted-then : Alike (imageTests s a) []
+  unfolding acceptNumberIn
+  accepted-then = alike-none (imageTests s a) (image-numbered s a) ok
 
--- one that does not is refused by 12
-pub decode-none : (s : List ℕ) (k p : ℕ) → Accepted s k p → (x q : List ℕ) → Assignment (bitsIn s k p) x → length q ≡ meters s → decodes (meters s) (links s) (kindOf k p) x ≡ false → decodeNumberIn s k p x q ≡ 12
-unfolding decodeNumber decodeTests
-decode-none s k p a x q b h d =
-    accepted-then s k p a _
-    ∙ refusal-next 9 _ _ (both-lengths (length x) (bitsIn s k p) (length q) (meters s) (b .size) h)
-    ∙ refusal-next 11 _ _ (ap not (bits-pass x (b .bits)))
-    ∙ refusal-here 12 _ _ (ap not d)
+  -- an assignment is not refused by 9 or 11
+  pub energy-accepts : (x : List ℕ) → Assignment (I .bits) x → energyNumberIn s a x ≡ 0
+  unfolding energyNumberIn energyTests
+  energy-accepts x b =
+      accepted-then _
+      ∙ refusal-next 9 _ _ (ap not (eq-eqb (length x) (I .bits) (b .size)))
+      ∙ refusal-last 11 _ (ap not (bits-pass x (b .bits)))
 
--- where bits decode exactly when they code a plan, 12 is given exactly when they code none
-pub refused-exactly : (s : List ℕ) (k p : ℕ) → Accepted s k p → (x q : List ℕ) → Assignment (bitsIn s k p) x → length q ≡ meters s
-    → decodes (meters s) (links s) (kindOf k p) x ≡ true ↔ CodesPlanIn s k p x → (decodeNumberIn s k p x q ≡ 12) ↔ (CodesPlanIn s k p x → ⊥)
-refused-exactly s k p a x q b h i = go (decodes (meters s) (links s) (kindOf k p) x) refl
-  where
-    go : (t : Bool) → decodes (meters s) (links s) (kindOf k p) x ≡ t → (decodeNumberIn s k p x q ≡ 12) ↔ (CodesPlanIn s k p x → ⊥)
-    go true e = (λ r. let z : ⊥ = omega (arith, decode-accepts s k p a x q b h e, r) in absurd z, λ none. absurd (none (i .0 e)))
-    go false e = (λ r c. true≢false (sym (i .1 c) ∙ e), λ none. decode-none s k p a x q b h e)
+  -- a row below the bit count is not refused where there is room
+  pub row-accepts : (i room : ℕ) → i < I .bits → I .bits - i ≤ room → rowNumberIn s a i room ≡ 0
+  unfolding rowNumberIn rowTests
+  row-accepts i room h r =
+      accepted-then _
+      ∙ refusal-next 10 _ _ (lt-leb (I .bits) i h)
+      ∙ refusal-last 9 _ (le-ltb room (I .bits - i) r)
+
+  -- a plan is not refused where there are as many bits as its code has
+  pub code-accepts : (q x : List ℕ) → I .isPlan q ≡ true → length x ≡ I .bits → codeNumberIn s a q x ≡ 0
+  unfolding codeNumberIn codeTests
+  code-accepts q x e h =
+      accepted-then _
+      ∙ refusal-next 9 _ _ (both-lengths (length q) (I .planBytes) (length x) (I .bits) (accepted-facts s a ok .is-sound .plan-bytes q e) h)
+      ∙ refusal-last 12 _ (ap not e)
+
+  module _ (x q : List ℕ) (b : Assignment (I .bits) x) (h : length q ≡ I .planBytes) where
+    -- an assignment that decodes to a plan is not refused where there are bytes for it
+    pub decode-accepts : I .decodes x ≡ true → decodeNumberIn s a x q ≡ 0
+    unfolding decodeNumberIn decodeTests
+    decode-accepts d =
+        accepted-then _
+        ∙ refusal-next 9 _ _ (both-lengths (length x) (I .bits) (length q) (I .planBytes) (b .size) h)
+        ∙ refusal-next 11 _ _ (ap not (bits-pass x (b .bits)))
+        ∙ refusal-last 12 _ (ap not d)
+
+    -- one that does not is refused by 12
+    decode-none : I .decodes x ≡ false → decodeNumberIn s a x q ≡ 12
+    unfolding decodeNumberIn decodeTests
+    decode-none d =
+        accepted-then _
+        ∙ refusal-next 9 _ _ (both-lengths (length x) (I .bits) (length q) (I .planBytes) (b .size) h)
+        ∙ refusal-next 11 _ _ (ap not (bits-pass x (b .bits)))
+        ∙ refusal-here 12 _ _ (ap not d)
+
+    -- where bits decode exactly when they code a plan, 12 is given exactly when they code none
+    pub refused-exactly : I .decodes x ≡ true ↔ CodesPlan I x → (decodeNumberIn s a x q ≡ 12) ↔ (CodesPlan I x → ⊥)
+    refused-exactly i = go (I .decodes x) refl
+      where
+        go : (t : Bool) → I .decodes x ≡ t → (decodeNumberIn s a x q ≡ 12) ↔ (CodesPlan I x → ⊥)
+        go true e = (λ r. let z : ⊥ = omega (arith, decode-accepts e, r) in absurd z, λ none. absurd (none (i .0 e)))
+        go false e = (λ r c. true≢false (sym (i .1 c) ∙ e), λ none. decode-none e)
 
 -- ---- a row, whatever is lent
 
@@ -128,24 +151,28 @@ at-most r xs = go (eqb r 0)
     go true = omega arith
     go false = omega arith
 
--- what is refused by 1, 7 or 8 is refused as a row
-row-stopped : (s : List ℕ) (k p i room : ℕ) → (acceptNumberIn s k p ≡ 0 → ⊥) → rowNumberIn s k p i room ≡ acceptNumberIn s k p
-unfolding acceptNumberIn rowNumber
-row-stopped s k p i room n = stops-some (imageTests s k p) _ refl n .by _
+module _ (s : List ℕ) (a : Ask) (i room : ℕ) where
+  abbrev J : Instance
+  J = instanceIn s a
 
--- no row has more than 8,192 numbers
-pub part-few : (s : List ℕ) (k p i room : ℕ) → length (rowPartIn s k p i room) ≤ MOST-BITS
-unfolding rowPart
-part-few s k p i room =
-    elim (ℕ-discrete (acceptNumberIn s k p) 0) [
-      | yes a ↦ omega (arith, at-most (rowNumberIn s k p i room) (rowOf (formulaIn s k p) (bitsIn s k p) i), row-length (formulaIn s k p) (bitsIn s k p) i, accepted-facts s k p a .few)
-      | no n ↦ omega (arith, ap length (kept (rowNumberIn s k p i room) (rowOf (formulaIn s k p) (bitsIn s k p) i) [] (λ z. n (sym (row-stopped s k p i room n) ∙ z))))
-    ]
+  -- what is refused by 1, 7 or 8 is refused as a row
+  row-stopped : (acceptNumberIn s a ≡ 0 → ⊥) → rowNumberIn s a i room ≡ acceptNumberIn s a
+  unfolding acceptNumberIn rowNumberIn
+  row-stopped n = stops-some (imageTests s a) _ refl n .by _
 
--- a row that is not refused is one of an accepted image, and there is room for it
-pub row-taken : (s : List ℕ) (k p i room : ℕ) → rowNumberIn s k p i room ≡ 0 → Accepted s k p × (i < bitsIn s k p) × (bitsIn s k p ≤ i + room)
-unfolding rowNumber
-row-taken s k p i room z =
-    let a : Accepted s k p = elim (ℕ-discrete (acceptNumberIn s k p) 0) [ yes a ↦ a | no n ↦ absurd (n (sym (row-stopped s k p i room n) ∙ z)) ] in
-    let w = row-within (bitsIn s k p) i room (sym (accepted-then s k p a _) ∙ z) in
-    (a, w .0, w .1)
+  -- no row has more than 8,192 numbers
+  pub part-few : length (rowPartIn s a i room) ≤ MOST-BITS
+  unfolding rowPartIn
+  part-few =
+      elim (ℕ-discrete (acceptNumberIn s a) 0) [
+        | yes ok ↦ omega (arith, at-most (rowNumberIn s a i room) (rowOf (J .formula) (J .bits) i), row-length (J .formula) (J .bits) i, accepted-facts s a ok .few)
+        | no n ↦ omega (arith, ap length (kept (rowNumberIn s a i room) (rowOf (J .formula) (J .bits) i) [] (λ z. n (sym (row-stopped n) ∙ z))))
+      ]
+
+  -- a row that is not refused is one of an accepted image, and there is room for it
+  pub row-taken : rowNumberIn s a i room ≡ 0 → Accepted s a × (i < J .bits) × (J .bits ≤ i + room)
+  unfolding rowNumberIn
+  row-taken z =
+      let ok : Accepted s a = elim (ℕ-discrete (acceptNumberIn s a) 0) [ yes ok ↦ ok | no n ↦ absurd (n (sym (row-stopped n) ∙ z)) ] in
+      let w = row-within (J .bits) i room (sym (accepted-then s a ok _) ∙ z) in
+      (ok, w .0, w .1)

@@ -1,11 +1,10 @@
 pub mod Tried
 pub mod ByKind
+pub mod Earlier
+pub mod Refusing
+pub mod Posed
+pub mod Dispatch
+pub mod Calling
 pub mod Accepted
 pub mod Demands
 pub mod Worked
-pub mod Dispatch
-pub mod Checked
-pub mod Posing
-pub mod Earlier
-pub mod Posed
-pub mod Answered

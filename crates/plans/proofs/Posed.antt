@@ -1,177 +1,192 @@
--- What the answer of `pose` and of `problem_in` says: the problem accepted, its bits and that its kind's limits hold, or the number of the refusal. Assumes nothing.
-use Prim.Native.Nat.{ℕ, zero, suc, _^_, _≤_}
+-- The problem that an image and what is asked pose: the tests for 7 and 8, what `pose` promises, and what that says of a call's image. Assumes nothing.
+use Prim.Native.Nat.{ℕ, zero, suc, _≤_}
 use mathlib.Core.Bool.{Bool, true}
 use mathlib.Core.Path.{_≡_, refl, sym, ap, _∙_, subst}
-use mathlib.Core.List.{List, []}
-use lib.IntN.{ℤ}
-use lib.ListN.{length, take}
+use mathlib.Core.List.{List, [], _++_}
+use lib.ListN.{length, take, replicate}
 use native.Mathlib.Omega.{arith}
-use borrow.Author.Tests.{ltb-false, not-false}
-use Rattle.links.specs.Links.{Link, linksOf}
-use Rattle.links.specs.Survey.{Survey, Arrays}
-use Rattle.links.proofs.Arrays.{length-linksOf}
+use borrow.Author.Tests.{not-false}
+use Rattle.links.specs.Links.{Link, endsU, endsV, weights}
+use Rattle.links.specs.Survey.{Survey}
+use Rattle.qubo.specs.Instance.{Instance}
 use Rattle.site.specs.Layout.{meters}
 use Rattle.site.specs.Image.{valid, links}
+use Rattle.site.specs.Reading.{readLinks, over}
 use Rattle.site.specs.Refusal.{refusal}
-use Rattle.site.proofs.Refused.{refusal-none}
 use Rattle.site.specs.Edits.{checkRefusal}
-use Rattle.site.proofs.Images.{ReadOut, to-image}
+use Rattle.site.proofs.Refused.{refusal-none}
+use Rattle.site.proofs.Calls.{check-yes, read-all, meters-all}
+use Rattle.site.proofs.Images.{ReadOut, read-out, to-image}
 use Rattle.site.proofs.Valid.{links-survey}
-use Rattle.channels.proofs.Load as channels
-use Rattle.groups.proofs.Asking as groups
-use Rattle.tree.proofs.Asking as tree
+use Rattle.plans.specs.declared.Ask.{Ask}
 use Rattle.plans.specs.declared.Kind.{Kind}
-use Rattle.plans.specs.declared.Kind.the-variants.{Channels, Groups, Tree}
 use Rattle.plans.specs.declared.Problem.{Problem}
-use Rattle.plans.specs.declared.problems.Posed.{Posed}
-use Rattle.plans.specs.declared.problems.Posed.the-variants.{Accepted, Refused}
-use Rattle.plans.specs.declared.Number.the-variants as number
-use Rattle.plans.specs.Kinds.{kindOf, limitsHold, bitCount, penalty}
-use Rattle.plans.specs.Refusals.{MOST-BITS, kindTests, imageTests, rowTests}
-use Rattle.plans.specs.Answers.{numberAnswer}
-use Rattle.plans.specs.Calls.{acceptNumberIn, rowNumber, rowNumberIn}
-use Rattle.plans.specs.Lent.{problemOf, posedBy, Ready, Weighed}
-use Rattle.plans.proofs.Earlier.{Alike, Stops, Respects, alike-none, stops-some, kind-numbered, image-numbered, image-alike, image-stops, number-refused}
-use Rattle.plans.proofs.Posing.{good-kind}
+use Rattle.plans.specs.declared.posing.Posed.{Posed}
+use Rattle.plans.specs.declared.posing.Posed.the-variants.{Accepted, Refused}
+use Rattle.plans.specs.Kinds.{Site, siteOf, kindOf, limitsHold, penaltyOf, penaltyAsked, instanceBy, instanceOf}
+use Rattle.plans.specs.Refusals.{MOST-BITS, askTests, countTests, kindTests, siteIn, imageTests}
+use Rattle.plans.specs.Calls.{instanceIn, acceptNumberIn}
+use Rattle.plans.specs.Inner.{problemOf, posedBy, instanceFor, mostPenalty, Ready}
+use Rattle.plans.proofs.Earlier.{Alike, Stops, alone, alike-none, stops-some, none-first, ask-numbered, image-numbered, image-alike, image-stops}
+use Rattle.plans.proofs.Refusing.{ask-limits, count-few}
+use Rattle.plans.proofs.ByKind.{asked-small, penalty-is, plan-bytes}
 
 -- ---- the two answers
 
--- a problem is given only where the number is 0, and is then the problem of the site and the kind, with its bit count
-pub accepted : (r N : ℕ) (ls : List Link) (k p : ℕ) (pr : Problem) (b : ℕ) (d : Posed) → d ≡ posedBy r N ls k p → d ≡ Accepted pr b
-    → (r ≡ 0) × (pr ≡ problemOf N ls k p) × (b ≡ bitCount N (length ls) (kindOf k p))
-accepted zero N ls k p pr b d e f = (refl, cc, cc)
-accepted (suc r) N ls k p pr b d e f = let z : _≡_ {A = ℕ} 0 1 = cc in let y : ⊥ = omega arith in absurd y
+-- a problem is given only where the number is 0, and is then that of the site and the ask, with its bit count and its number of links
+accepted : (r : ℕ) (s : Site) (a : Ask) (pr : Problem) (b n : ℕ) (d : Posed) → d ≡ posedBy r s a → d ≡ Accepted pr b n
+    → (r ≡ 0) × (pr ≡ problemOf s a) × (b ≡ instanceOf s a .bits) × (n ≡ length (s .links))
+accepted zero s a pr b n d e f = (refl, cc, cc, cc)
+accepted (suc r) s a pr b n d e f = let z : _≡_ {A = ℕ} 0 1 = cc in let y : ⊥ = omega arith in absurd y
 
 -- a number is given only where it is not 0, and is then the number of the refusal
-pub refused : (r N : ℕ) (ls : List Link) (k p n : ℕ) (d : Posed) → d ≡ posedBy r N ls k p → d ≡ Refused n → (r ≡ n) × (n ≡ 0 → ⊥)
-refused zero N ls k p n d e f = let z : _≡_ {A = ℕ} 0 1 = cc in let y : ⊥ = omega arith in absurd y
-refused (suc r) N ls k p n d e f = let q : suc r ≡ n = cc in (q, λ z. omega arith)
+refused : (r : ℕ) (s : Site) (a : Ask) (n : ℕ) (d : Posed) → d ≡ posedBy r s a → d ≡ Refused n → (r ≡ n) × (n ≡ 0 → ⊥)
+refused zero s a n d e f = let z : _≡_ {A = ℕ} 0 1 = cc in let y : ⊥ = omega arith in absurd y
+refused (suc r) s a n d e f = let q : suc r ≡ n = cc in (q, λ z. omega arith)
 
 -- a refusal is such an answer
-pub posed-refused : (r N : ℕ) (ls : List Link) (k p : ℕ) → (r ≡ 0 → ⊥) → Refused r ≡ posedBy r N ls k p
-posed-refused zero N ls k p n = absurd (n refl)
-posed-refused (suc r) N ls k p n = refl
+posed-refused : (r : ℕ) (s : Site) (a : Ask) → (r ≡ 0 → ⊥) → Refused r ≡ posedBy r s a
+posed-refused zero s a n = absurd (n refl)
+posed-refused (suc r) s a n = refl
 
--- ---- what 0 says of a kind
+-- ---- pose_links
 
-module _ (N M k p : ℕ) (z : refusal (kindTests N M k p) ≡ 0) where
-  -- its limits hold
-  pub kind-good : limitsHold N (kindOf k p) ≡ true
+module _ (s : Site) (a : Ask) (r : ℕ) (h : r ≡ refusal (askTests (s .meters) a)) where
+  -- what is asked is refused
+  pub posed-bad : (r ≡ 0 → ⊥) → Refused r ≡ posedBy (refusal (kindTests s a)) s a
   unfolding kindTests
-  kind-good = good-kind N k p (refusal-none 6 _ _ z .0)
+  posed-bad n = rw (stops-some (askTests (s .meters) a) r (sym h) n .by _) (posed-refused r s a n)
 
-  -- its bits are few
-  pub kind-few : bitCount N M (kindOf k p) ≤ MOST-BITS
-  unfolding kindTests
-  kind-few = ltb-false _ _ (refusal-none 7 _ _ (refusal-none 6 _ _ z .1) .0)
+  module _ (z : r ≡ 0) (K : Kind) (named : K ≡ kindOf a) (b : ℕ) (bits : (A : ℕ) → b ≡ instanceBy A s K .bits) where
+    -- the bit count is that of what is asked
+    bits-asked : b ≡ instanceOf s a .bits
+    unfolding instanceOf
+    bits-asked = rw (← named) (bits _)
 
--- ---- of a site in arrays
+    kind-alike : (t : List (ℕ × Bool)) → refusal (askTests (s .meters) a ++ t) ≡ refusal t
+    kind-alike = alike-none (askTests (s .meters) a) (ask-numbered (s .meters) a) (sym h ∙ z)
 
--- an accepted problem, as the inner functions ask for it, and how it is named
-pub record Taken (N k p : ℕ) (us vs ws : List ℕ) (pr : Problem) (b : ℕ) : Type 0 where
-  pub ready : Ready pr us vs ws
-  pub is-bits : b ≡ bitCount (pr .meters) (length us) (pr .kind)
-  pub is-meters : pr .meters ≡ N
-  pub is-kind : pr .kind ≡ kindOf k p
-  pub alike : Alike (kindTests N (length (linksOf us vs ws)) k p) []
+    -- its number decides then
+    count-decides : refusal (kindTests s a) ≡ refusal (countTests b)
+    unfolding kindTests
+    count-decides = kind-alike _ ∙ ap (λ (n : ℕ). refusal (countTests n)) (sym bits-asked)
 
-module _ (us vs ws : List ℕ) (N k p : ℕ) (d : Posed) (e : d ≡ posedBy (refusal (kindTests N (length (linksOf us vs ws)) k p)) N (linksOf us vs ws) k p) where
-  pub taken : Arrays N us vs ws → (pr : Problem) (b : ℕ) → d ≡ Accepted pr b → Taken N k p us vs ws pr b
-  taken a pr b f =
-      let h = accepted _ N (linksOf us vs ws) k p pr b d e f in
-      subst (λ (x : Problem). Taken N k p us vs ws x b) (sym (h .1)) (record {
-        ready = record { arrays = a; limits = kind-good N _ k p (h .0); is-penalty = refl };
-        is-bits = h .2 ∙ ap (λ (M : ℕ). bitCount N M (kindOf k p)) (length-linksOf us vs ws);
-        is-meters = refl;
-        is-kind = refl;
-        alike = alike-none _ (kind-numbered N _ k p) (h .0);
-      })
+    module _ (q : ℕ) (g : q ≡ refusal (countTests b)) where
+      pub posed-many : (q ≡ 0 → ⊥) → Refused q ≡ posedBy (refusal (kindTests s a)) s a
+      posed-many n = rw (count-decides ∙ sym g) (posed-refused q s a n)
 
-  pub stopped : (n : ℕ) → d ≡ Refused n → Stops (kindTests N (length (linksOf us vs ws)) k p) n
-  stopped n f = let h = refused _ N (linksOf us vs ws) k p n d e f in stops-some _ n (h .0) (h .1)
+      pub posed-well : q ≡ 0 → (A : ℕ) → A ≡ penaltyOf s K → (n : ℕ) → n ≡ length (s .links) → Accepted (record { kind = K; meters = s .meters; penalty = A }) b n ≡ posedBy (refusal (kindTests s a)) s a
+      unfolding penaltyAsked
+      posed-well y A e n f = rw (f, count-decides ∙ sym g ∙ y, ← bits-asked, e, named) refl
 
--- what is promised of an accepted problem is promised of the kind's number and parameter
-pub taken-on : (N k p : ℕ) (us vs ws : List ℕ) (pr : Problem) (b : ℕ) → Taken N k p us vs ws pr b → (P : List (ℕ × Bool) → ℕ → List Link → Kind → Type 0) → Respects P
-    → P [] (pr .meters) (linksOf us vs ws) (pr .kind) → P (kindTests N (length (linksOf us vs ws)) k p) N (linksOf us vs ws) (kindOf k p)
-taken-on N k p us vs ws pr b t P h q =
-    let ls = linksOf us vs ws in
-    h _ [] N ls (kindOf k p) (t .alike) (subst (λ (K : Kind). P [] N ls K) (t .is-kind) (subst (λ (n : ℕ). P [] n ls (pr .kind)) (t .is-meters) q))
-
--- ---- of an image
-
--- what is promised of the meters and links read is promised of the image
-pub read-on : (s us vs ws : List ℕ) (k p m n : ℕ) → ReadOut s m n us vs ws → (P : List (ℕ × Bool) → ℕ → List Link → Kind → Type 0) → Respects P
-    → P (kindTests m (length (linksOf (take n us) (take n vs) (take n ws))) k p) m (linksOf (take n us) (take n vs) (take n ws)) (kindOf k p)
-    → P (imageTests s k p) (meters s) (links s) (kindOf k p)
-read-on s us vs ws k p m n o P h q =
-    h _ _ (meters s) (links s) (kindOf k p) (image-alike s k p (o .is-valid)) (to-image s us vs ws m n o (λ (N : ℕ) (ls : List Link). P (kindTests N (length ls) k p) N ls (kindOf k p)) q)
-
--- where the tests of an image refuse nothing it is valid, and so is the kind
-pub image-good : (s : List ℕ) (k p : ℕ) → refusal (imageTests s k p) ≡ 0 → (valid s ≡ true) × (refusal (kindTests (meters s) (length (links s)) k p) ≡ 0)
-unfolding imageTests
-image-good s k p z = let h = refusal-none 0 _ _ z in (not-false (valid s) (h .0), h .1)
-
--- 01's A is small for each kind
-pub penalty-small : (N : ℕ) (ls : List Link) (k : Kind) → Survey N ls → penalty N ls k ≤ 2 ^ 32
-unfolding penalty
-penalty-small N ls (Channels n) v = omega (arith, channels.penalty-small N ls v)
-penalty-small N ls (Groups m) v = groups.penalty-small N ls v
-penalty-small N ls (Tree d) v = omega (arith, tree.penalty-small N ls v)
-
--- the problem of an image
-pub record Given (s : List ℕ) (k p : ℕ) (pr : Problem) (b : ℕ) : Type 0 where
-  pub none : refusal (imageTests s k p) ≡ 0
-  pub is-problem : pr ≡ problemOf (meters s) (links s) k p
-  pub is-bits : b ≡ bitCount (meters s) (length (links s)) (kindOf k p)
-  pub few : b ≤ MOST-BITS
-  pub small : pr .penalty ≤ 2 ^ 32
-  pub weighed : Weighed (pr .meters) (pr .penalty) (pr .kind)
-  pub alike : Alike (imageTests s k p) []
+-- ---- pose
 
 -- a bad image poses nothing
-pub image-refused : (s : List ℕ) (k p r : ℕ) → r ≡ checkRefusal s → (r ≡ 0 → ⊥) → Refused r ≡ posedBy (acceptNumberIn s k p) (meters s) (links s) k p
-unfolding acceptNumberIn imageTests kindTests
-image-refused s k p r q n = rw (image-stops s k p r q n .by []) (posed-refused r (meters s) (links s) k p n)
+pub image-refused : (s : List ℕ) (a : Ask) (r : ℕ) → r ≡ checkRefusal s → (r ≡ 0 → ⊥) → Refused r ≡ posedBy (acceptNumberIn s a) (siteIn s) a
+unfolding acceptNumberIn
+image-refused s a r q n = rw (sym (alone (imageTests s a)) ∙ image-stops s a r q n .by []) (posed-refused r (siteIn s) a n)
 
 -- a valid one poses what its meters and links do
-pub image-posed : (s us vs ws : List ℕ) (k p m n : ℕ) (d : Posed) → ReadOut s m n us vs ws
-    → d ≡ posedBy (refusal (kindTests m (length (linksOf (take n us) (take n vs) (take n ws))) k p)) m (linksOf (take n us) (take n vs) (take n ws)) k p
-    → d ≡ posedBy (acceptNumberIn s k p) (meters s) (links s) k p
-unfolding acceptNumberIn imageTests kindTests
-image-posed s us vs ws k p m n d o e =
-    rw (image-alike s k p (o .is-valid) []) (to-image s us vs ws m n o (λ (N : ℕ) (ls : List Link). d ≡ posedBy (refusal (kindTests N (length ls) k p)) N ls k p) e)
+pub image-posed : (s us vs ws : List ℕ) (a : Ask) (m n : ℕ) (d : Posed) → ReadOut s m n us vs ws
+    → d ≡ posedBy (refusal (kindTests (siteOf m (take n us) (take n vs) (take n ws)) a)) (siteOf m (take n us) (take n vs) (take n ws)) a
+    → d ≡ posedBy (acceptNumberIn s a) (siteIn s) a
+unfolding acceptNumberIn
+image-posed s us vs ws a m n d o e =
+    rw (sym (alone (imageTests s a)) ∙ image-alike s a (o .is-valid) [] ∙ alone (kindTests (siteIn s) a)) (to-image s us vs ws m n o (λ (N : ℕ) (ls : List Link). d ≡ posedBy (refusal (kindTests (record { meters = N; links = ls }) a)) (record { meters = N; links = ls }) a) e)
 
-module _ (s : List ℕ) (k p : ℕ) (d : Posed) (e : d ≡ posedBy (acceptNumberIn s k p) (meters s) (links s) k p) where
-  pub given : (pr : Problem) (b : ℕ) → d ≡ Accepted pr b → Given s k p pr b
-  unfolding acceptNumberIn
-  given pr b f =
-      let h = accepted _ (meters s) (links s) k p pr b d e f in
-      let g = image-good s k p (h .0) in
-      let v = links-survey s (g .0) in
-      subst (λ (x : Problem). Given s k p x b) (sym (h .1)) (record {
+-- ---- what the answer says of an image
+
+-- no test of image and ask applies
+module _ (s : List ℕ) (a : Ask) (z : refusal (imageTests s a) ≡ 0) where
+  -- the image is valid
+  good-image : valid s ≡ true
+  unfolding imageTests
+  good-image = not-false (valid s) (refusal-none 0 _ _ z .0)
+
+  good-kind : refusal (kindTests (siteIn s) a) ≡ 0
+  unfolding imageTests
+  good-kind = refusal-none 0 _ _ z .1
+
+  pub good-survey : Survey (meters s) (links s)
+  good-survey = links-survey s good-image
+
+  -- its kind's limits hold
+  pub good-limits : limitsHold (meters s) (kindOf a) ≡ true
+  unfolding kindTests
+  good-limits = ask-limits (meters s) a (none-first (askTests (meters s) a) _ (ask-numbered (meters s) a) good-kind)
+
+  -- there are at most 8,192 bits
+  pub good-count : instanceIn s a .bits ≤ MOST-BITS
+  unfolding kindTests
+  good-count =
+      let asked = none-first (askTests (meters s) a) _ (ask-numbered (meters s) a) good-kind in
+      count-few _ (sym (alike-none (askTests (meters s) a) (ask-numbered (meters s) a) asked _) ∙ good-kind)
+
+-- the problem of an image
+pub record Given (s : List ℕ) (a : Ask) (pr : Problem) (b n : ℕ) : Type 0 where
+  pub none : refusal (imageTests s a) ≡ 0
+  pub is-meters : pr .meters ≡ meters s
+  pub few-meters : pr .meters ≤ 48
+  pub is-penalty : pr .penalty ≡ instanceIn s a .penalty
+  pub small : pr .penalty ≤ mostPenalty (pr .kind)
+  pub is-bits : b ≡ instanceIn s a .bits
+  pub few : b ≤ MOST-BITS
+  pub is-links : n ≡ length (links s)
+  pub is-bytes : pr .meters ≡ instanceIn s a .planBytes
+  pub limits : limitsHold (pr .meters) (pr .kind) ≡ true
+  pub is-instance : instanceBy (pr .penalty) (record { meters = pr .meters; links = links s }) (pr .kind) ≡ instanceIn s a
+  pub alike : Alike (imageTests s a) []
+
+module _ (s : List ℕ) (a : Ask) (d : Posed) (e : d ≡ posedBy (acceptNumberIn s a) (siteIn s) a) where
+  pub given : (pr : Problem) (b n : ℕ) → d ≡ Accepted pr b n → Given s a pr b n
+  unfolding acceptNumberIn instanceOf
+  given pr b n f =
+      let h = accepted _ (siteIn s) a pr b n d e f in
+      let v = good-survey s a (h .0) in
+      subst (λ (x : Problem). Given s a x b n) (sym (h .1)) (record {
         none = h .0;
-        is-problem = refl;
+        is-meters = refl;
+        few-meters = v .meters-high;
+        is-penalty = penalty-is _ (siteIn s) (kindOf a);
+        small = asked-small (siteIn s) v a;
         is-bits = h .2;
-        few = omega (arith, h .2, kind-few (meters s) (length (links s)) k p (g .1));
-        small = penalty-small (meters s) (links s) (kindOf k p) v;
-        weighed = record { site = links s; survey = v; is-penalty = refl };
-        alike = alike-none _ (image-numbered s k p) (h .0);
+        few = omega (arith, h .2, good-count s a (h .0));
+        is-links = h .3;
+        is-bytes = plan-bytes _ (siteIn s) (kindOf a);
+        limits = good-limits s a (h .0);
+        is-instance = refl;
+        alike = alike-none _ (image-numbered s a) (h .0);
       })
 
-  pub withheld : (n : ℕ) → d ≡ Refused n → Stops (imageTests s k p) n
+  pub withheld : (n : ℕ) → d ≡ Refused n → Stops (imageTests s a) n
   unfolding acceptNumberIn
-  withheld n f = let h = refused _ (meters s) (links s) k p n d e f in stops-some _ n (h .0) (h .1)
+  withheld n f = let h = refused _ (siteIn s) a n d e f in stops-some _ n (h .0) (h .1)
 
--- the answers that are numbers, refused and given
-pub number-stops : (s : List ℕ) (k p n : ℕ) (z : ℤ) → Stops (imageTests s k p) n → number.Refused n ≡ numberAnswer (acceptNumberIn s k p) z
-unfolding acceptNumberIn imageTests kindTests
-number-stops s k p n z h = rw (h .by []) (number-refused n z (h .refused))
+-- and its links in the front places of three arrays
+pub record Held (s : List ℕ) (a : Ask) (pr : Problem) (b n : ℕ) (us vs ws : List ℕ) : Type 0 where
+  pub given : Given s a pr b n
+  pub room-u : n ≤ length us
+  pub room-v : n ≤ length vs
+  pub room-w : n ≤ length ws
+  pub ready : Ready pr (take n us) (take n vs) (take n ws)
+  pub is-instance : instanceFor pr (take n us) (take n vs) (take n ws) ≡ instanceIn s a
+  pub is-bits : b ≡ instanceFor pr (take n us) (take n vs) (take n ws) .bits
 
-pub number-given : (s : List ℕ) (k p : ℕ) (y z : ℤ) → refusal (imageTests s k p) ≡ 0 → y ≡ z → number.Value y ≡ numberAnswer (acceptNumberIn s k p) z
-unfolding acceptNumberIn
-number-given s k p y z e f = rw (e, f) refl
-
--- the refusal of a row of an accepted problem
-pub row-number-given : (s : List ℕ) (k p : ℕ) (pr : Problem) (b : ℕ) → Given s k p pr b → (i room r : ℕ) → r ≡ refusal (rowTests b i room) → r ≡ rowNumberIn s k p i room
-unfolding rowNumber
-row-number-given s k p pr b g i room r e = e ∙ ap (λ (n : ℕ). refusal (rowTests n i room)) (g .is-bits) ∙ sym (g .alike _)
+-- which is what `pose` leaves in arrays of 256 zeros
+pub held : (s : List ℕ) (a : Ask) (d : Posed) (us vs ws : List ℕ)
+    → (d ≡ posedBy (acceptNumberIn s a) (siteIn s) a) × ((us ≡ over (endsU (readLinks s)) (replicate 256 0)) × ((vs ≡ over (endsV (readLinks s)) (replicate 256 0)) × (ws ≡ over (weights (readLinks s)) (replicate 256 0))))
+    → (pr : Problem) (b n : ℕ) → d ≡ Accepted pr b n → Held s a pr b n us vs ws
+held s a d us vs ws e pr b n f =
+    let g = given s a d (e .0) pr b n f in
+    let v = good-image s a (g .none) in
+    let o = read-out s _ _ _ us vs ws (pr .meters) n (sym (check-yes s v)) (g .is-meters ∙ meters-all s v) (g .is-links ∙ ap length (read-all s v)) (e .1 .0) (e .1 .1 .0) (e .1 .1 .1) refl refl refl in
+    let i = ap (λ (ls : List Link). instanceBy (pr .penalty) (record { meters = pr .meters; links = ls }) (pr .kind)) (o .are) ∙ g .is-instance in
+    record {
+      given = g;
+      room-u = o .room-u;
+      room-v = o .room-v;
+      room-w = o .room-w;
+      ready = record { arrays = o .arrays; limits = g .limits; small = g .small };
+      is-instance = i;
+      is-bits = g .is-bits ∙ ap (λ (I : Instance). I .bits) (sym i);
+    }

@@ -1,14 +1,14 @@
 -- Which refusal is given: the first that applies of a list in the order of trial. Assumes nothing.
-use Prim.Native.Nat.{ℕ, zero, suc, _≤_, _<_}
-use mathlib.Core.Bool.{Bool, true, false, _&&_, cond, true≢false}
-use mathlib.Core.Path.{_≡_, refl, sym, ap, _∙_, subst}
-use mathlib.Core.List.{List, [], _∷_, _++_}
-use lib.Dec.{eqb, ltb}
+use Prim.Native.Nat.{ℕ, _≤_, _<_}
+use mathlib.Core.Bool.{Bool, true, false, true≢false}
+use mathlib.Core.Path.{_≡_, refl, sym}
+use mathlib.Core.List.{List, [], _∷_}
+use lib.Dec.{ltb}
 use native.Mathlib.Omega.{arith}
 use borrow.Author.Tests.{ltb-true}
 use Rattle.lists.proofs.Tests.{and-left, and-right}
 use Rattle.site.specs.Refusal.{refusal}
-use Rattle.plans.specs.Best.{First, none, here, later, Applies, this, another, place, risesFrom, InOrder}
+use Rattle.plans.specs.Best.{First, none, here, later, Applies, this, another, place, risesFrom}
 
 -- what is given is the first that applies
 pub refusal-first : (xs : List (ℕ × Bool)) → First xs (refusal xs)

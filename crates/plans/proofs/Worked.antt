@@ -1,19 +1,19 @@
 -- 01's worked surveys marked P: a test of a line, computed over the whole table at once, and the law that what passes the test is what the line means. Assumes nothing.
-use Prim.Native.Nat.{ℕ, zero, suc, _+_, _%_, _≤_}
-use mathlib.Core.Path.{_≡_, refl, sym, ap, subst, _∙_}
-use mathlib.Core.Bool.{Bool, true, false, _&&_, _||_, not, true≢false, false≢true}
+use Prim.Native.Nat.{ℕ, _%_, _≤_}
+use mathlib.Core.Path.{_≡_, refl, ap, subst, _∙_}
+use mathlib.Core.Bool.{Bool, true, false, _&&_, _||_, not, false≢true}
 use mathlib.Core.List.{List, [], _∷_, List·Memᴰ, List·Memᴰ·head, List·Memᴰ·tail}
 use lib.ListN.{length}
 use lib.IntN.{ℤ, pos, negsuc}
 use lib.Dec.{eqb, leb}
 use native.Mathlib.Omega.{arith}
-use borrow.Author.Tests.{eqb-true, eqb-false, leb-true, not-true, not-false}
+use borrow.Author.Tests.{eqb-true, eqb-false, leb-true, not-true}
 use Rattle.lists.specs.Tests.{every, any, all, from, alike}
 use Rattle.lists.specs.Sums.{sumTo, sumOf, greatest, leastAt, lowest, same, differ, nth}
 use Rattle.lists.proofs.Tests.{and-left, and-right, all-member, alike-same}
 use Rattle.links.specs.Links.{Link, linkOk, before, ascendingFrom, ascending, total, isAt, hasEnds, present}
 use Rattle.links.specs.Survey.{Survey}
-use Rattle.qubo.specs.Formula.{value}
+use Rattle.qubo.specs.Instance.{Instance, energyOf, LeastPlan}
 use Rattle.qubo.specs.Table.{constantOf, pairOf, rowOf}
 use Rattle.onehot.specs.Choices.{bitAt, setAt, oneHots, areChoices, code}
 use Rattle.channels.specs.Formula as c-formula
@@ -25,18 +25,19 @@ use Rattle.arcs.specs.Arcs.{arcs, arcsFrom}
 use Rattle.arcs.specs.Formula.{depthTerms, entryTerms, endTerms, weightTerms}
 use Rattle.neighbours.specs.Formula.{countTerms, degreeTerms}
 use Rattle.tree.specs.Formula as tree-formula
+use Rattle.site.specs.Refusal.{refusal}
 use Rattle.site.proofs.Refused.{refusal-next, refusal-here}
 use Rattle.groups.proofs.Demands as groups
 use Rattle.tree.specs.Plans as tree-plans
-use Rattle.tree.specs.Best as tree-best
 use Rattle.tree.proofs.Trial.{options, tried, noLighter, noPlan, plans-tried, none-lighter, none-plan}
 use Rattle.tree.proofs.PlanFacts.{least-best}
+use Rattle.tree.proofs.Asking as tree-asking
 use Rattle.tree.proofs.Demands as tree
 use Rattle.plans.specs.declared.Kind.{Kind}
 use Rattle.plans.specs.declared.Kind.the-variants.{Channels, Groups, Tree}
-use Rattle.plans.specs.Kinds.{limitsHold, bitCount, penalty, formulaBy, formula, isPlan, weight, codeOf, decoded, repaired}
+use Rattle.plans.specs.Kinds.{Site, kindOf, limitsHold, penaltyOf, penaltyAsked, instanceBy, instanceOf}
 use Rattle.plans.specs.Refusals.{codeTests}
-use Rattle.plans.specs.Calls.{codeNumber}
+use Rattle.plans.proofs.ByKind.{asked-from}
 use Rattle.plans.proofs.Accepted.{both-lengths}
 use Rattle.plans.specs.Surveys as lines
 use Rattle.plans.specs.Surveys.{Line, Means, Worked, table}
@@ -103,21 +104,21 @@ undivided N (Channels n) = false
 undivided N (Groups m) = not (eqb (N % m) 0)
 undivided N (Tree d) = false
 
-holds : ℕ → List Link → Kind → Line → Bool
-holds N ls k (lines.bits b) = eqb (bitCount N (length ls) k) b
-holds N ls k (lines.A a) = eqb (penalty N ls k) a
-holds N ls k (lines.constant c) = same-int (constantOf (formula N ls k)) c
-holds N ls k (lines.row i r) = same-ints (rowOf (formula N ls k) (bitCount N (length ls) k) i) r
-holds N ls k (lines.pair i j z) = same-int (pairOf (formula N ls k) i j) z
-holds N ls k (lines.energy x e) = same-int (value (formula N ls k) x) (pos e)
-holds N ls k (lines.plan q) = isPlan N ls k q
-holds N ls k (lines.plan-of q w) = isPlan N ls k q && (eqb (weight ls k q) w && same-int (value (formula N ls k) (codeOf N ls k q)) (pos w))
-holds N ls k (lines.just qs) = listed N ls k qs
-holds N ls k (lines.no-plan-12 q) = eqb (length q) N && not (isPlan N ls k q)
-holds N ls k (lines.mended x q w m) = alike (decoded N ls k x) q && (eqb (weight ls k q) w && eqb (repaired N k x) m)
-holds N ls k (lines.least q w) = isPlan N ls k q && (eqb (weight ls k q) w && lightest N ls k w)
-holds N ls k lines.nothing-below = unplanned N ls k
-holds N ls k lines.no-plan = undivided N k
+holds : Site → Kind → Instance → Line → Bool
+holds s k I (lines.bits b) = eqb (I .bits) b
+holds s k I (lines.A a) = eqb (I .penalty) a
+holds s k I (lines.constant c) = same-int (constantOf (I .formula)) c
+holds s k I (lines.row i r) = same-ints (rowOf (I .formula) (I .bits) i) r
+holds s k I (lines.pair i j z) = same-int (pairOf (I .formula) i j) z
+holds s k I (lines.energy x e) = same-int (energyOf I x) (pos e)
+holds s k I (lines.plan q) = I .isPlan q
+holds s k I (lines.plan-of q w) = I .isPlan q && (eqb (I .weight q) w && same-int (energyOf I (I .codeOf q)) (pos w))
+holds s k I (lines.just qs) = listed (s .meters) (s .links) k qs
+holds s k I (lines.no-plan-12 q) = eqb (length q) (I .planBytes) && not (I .isPlan q)
+holds s k I (lines.repairs x q w m) = alike (I .decoded x) q && (eqb (I .weight q) w && eqb (I .repaired x) m)
+holds s k I (lines.least q w) = I .isPlan q && (eqb (I .weight q) w && lightest (s .meters) (s .links) k w)
+holds s k I lines.nothing-below = unplanned (s .meters) (s .links) k
+holds s k I lines.no-plan = undivided (s .meters) k
 
 -- ---- what passes is what the line means
 
@@ -130,100 +131,111 @@ among-in p (q ∷ qs) t = pick (alike p q) refl t (among-in p qs)
     pick true h u later = List·Memᴰ·head (alike-same p q h)
     pick false h u later = List·Memᴰ·tail (later u)
 
-module _ (N : ℕ) (ls : List Link) (s : Survey N ls) where
+module _ (N : ℕ) (ls : List Link) (s : Survey N ls) (A : ℕ) where
+  abbrev site : Site
+  site = record { meters = N; links = ls }
+
   -- a plan that no plan is lighter than, and the least energy
-  least-shown : (k : Kind) (q : List ℕ) (w : ℕ) → limitsHold N k ≡ true → isPlan N ls k q ≡ true → weight ls k q ≡ w → lightest N ls k w ≡ true → Means N ls k (lines.least q w)
-  unfolding limitsHold bitCount penalty formulaBy isPlan weight lightest tree-plans.treeWeight
-  least-shown (Channels n) q w l e h t = absurd (false≢true t)
-  least-shown (Groups m) q w l e h t = absurd (false≢true t)
-  least-shown (Tree d) q w l e h t =
-      let best : tree-best.LeastPlan N d ls q = record { ok = e; least = λ r f. omega (arith, h, none-lighter N d ls w (s .each) t r f) } in
-      let b = tree.best-least N d ls s l (treeLinks q ls) (least-best N d ls s q best) in
+  least-shown : (k : Kind) (q : List ℕ) (w : ℕ) → limitsHold N k ≡ true → penaltyOf site k ≤ A → instanceBy A site k .isPlan q ≡ true → instanceBy A site k .weight q ≡ w → lightest N ls k w ≡ true → Means (instanceBy A site k) (lines.least q w)
+  unfolding limitsHold penaltyOf instanceBy lightest tree-plans.treeWeight
+  least-shown (Channels n) q w l a e h t = absurd (false≢true t)
+  least-shown (Groups m) q w l a e h t = absurd (false≢true t)
+  least-shown (Tree d) q w l a e h t =
+      let best : LeastPlan (instanceBy A site (Tree d)) q = record { ok = e; least = λ r f. omega (arith, h, none-lighter N d ls w (s .each) t r f) } in
+      let b = tree.best-least N d ls s l A (omega (arith, tree-asking.penalty-heavy ls, a)) (treeLinks q ls) (least-best N d ls s q best) in
       (e, h, (b .0, b .1, b .2, b .3 ∙ ap pos h))
 
-  below-shown : (k : Kind) → limitsHold N k ≡ true → unplanned N ls k ≡ true → Means N ls k lines.nothing-below
-  unfolding limitsHold bitCount penalty formulaBy isPlan unplanned
-  below-shown (Channels n) l t = absurd (false≢true t)
-  below-shown (Groups m) l t = absurd (false≢true t)
-  below-shown (Tree d) l t = tree.none-below N d ls s l (λ T a w. let p = tree.tree-plan N d ls s l T a w in none-plan N d ls (s .each) t (p .0) (p .1))
+  below-shown : (k : Kind) → limitsHold N k ≡ true → penaltyOf site k ≤ A → unplanned N ls k ≡ true → Means (instanceBy A site k) lines.nothing-below
+  unfolding limitsHold penaltyOf instanceBy unplanned
+  below-shown (Channels n) l a t = absurd (false≢true t)
+  below-shown (Groups m) l a t = absurd (false≢true t)
+  below-shown (Tree d) l a t = tree.none-below N d ls s l A (omega (arith, tree-asking.penalty-heavy ls, a)) (λ T p w. let q = tree.tree-plan N d ls s l T p w in none-plan N d ls (s .each) t (q .0) (q .1))
 
-  listed-shown : (k : Kind) (qs : List (List ℕ)) → listed N ls k qs ≡ true → Means N ls k (lines.just qs)
-  unfolding listed isPlan
+  listed-shown : (k : Kind) (qs : List (List ℕ)) → listed N ls k qs ≡ true → Means (instanceBy A site k) (lines.just qs)
+  unfolding listed instanceBy
   listed-shown (Channels n) qs t q e = absurd (false≢true t)
   listed-shown (Groups m) qs t q e = absurd (false≢true t)
   listed-shown (Tree d) qs t q e = among-in q qs (subst (λ (b : Bool). (not b || among qs q) ≡ true) e (plans-tried N d ls (s .each) _ t q e))
 
-  none-shown : (k : Kind) → limitsHold N k ≡ true → undivided N k ≡ true → Means N ls k lines.no-plan
-  unfolding limitsHold isPlan undivided
+  none-shown : (k : Kind) → limitsHold N k ≡ true → undivided N k ≡ true → Means (instanceBy A site k) lines.no-plan
+  unfolding limitsHold penaltyOf instanceBy undivided
   none-shown (Channels n) l t q e = absurd (false≢true t)
   none-shown (Groups m) l t q e = eqb-false (N % m) 0 (not-true (eqb (N % m) 0) t) (groups.exists-exactly N m ls s l .1 (q, e))
   none-shown (Tree d) l t q e = absurd (false≢true t)
 
   -- coding what is no plan gives 12
-  refused-shown : (k : Kind) (q x : List ℕ) → length q ≡ N → isPlan N ls k q ≡ false → length x ≡ bitCount N (length ls) k → codeNumber [] N ls k q x ≡ 12
-  unfolding codeNumber codeTests
-  refused-shown k q x h e l = refusal-next 9 _ _ (both-lengths (length q) N (length x) (bitCount N (length ls) k) h l) ∙ refusal-here 12 _ _ (ap not e)
+  refused-shown : (I : Instance) (q x : List ℕ) → length q ≡ I .planBytes → I .isPlan q ≡ false → length x ≡ I .bits → refusal (codeTests I q x) ≡ 12
+  unfolding codeTests
+  refused-shown I q x h e l = refusal-next 9 _ _ (both-lengths (length q) (I .planBytes) (length x) (I .bits) h l) ∙ refusal-here 12 _ _ (ap not e)
 
-  shown : (k : Kind) → limitsHold N k ≡ true → (l : Line) → holds N ls k l ≡ true → Means N ls k l
+  shown : (k : Kind) → limitsHold N k ≡ true → penaltyOf site k ≤ A → (l : Line) → holds site k (instanceBy A site k) l ≡ true → Means (instanceBy A site k) l
   unfolding holds
-  shown k w (lines.bits b) t = eqb-true (bitCount N (length ls) k) b t
-  shown k w (lines.A a) t = eqb-true (penalty N ls k) a t
-  shown k w (lines.constant c) t = int-same (constantOf (formula N ls k)) c t
-  shown k w (lines.row i r) t = ints-same (rowOf (formula N ls k) (bitCount N (length ls) k) i) r t
-  shown k w (lines.pair i j z) t = int-same (pairOf (formula N ls k) i j) z t
-  shown k w (lines.energy x e) t = int-same (value (formula N ls k) x) (pos e) t
-  shown k w (lines.plan q) t = t
-  shown k w (lines.plan-of q v) t =
-      let r = and-right (isPlan N ls k q) _ t in
-      (and-left (isPlan N ls k q) _ t, eqb-true (weight ls k q) v (and-left (eqb (weight ls k q) v) _ r), int-same (value (formula N ls k) (codeOf N ls k q)) (pos v) (and-right (eqb (weight ls k q) v) _ r))
-  shown k w (lines.just qs) t = listed-shown k qs t
-  shown k w (lines.no-plan-12 q) t = λ x h. refused-shown k q x (eqb-true (length q) N (and-left (eqb (length q) N) _ t)) (not-true (isPlan N ls k q) (and-right (eqb (length q) N) _ t)) h
-  shown k w (lines.mended x q v m) t =
-      let r = and-right (alike (decoded N ls k x) q) _ t in
-      (alike-same (decoded N ls k x) q (and-left (alike (decoded N ls k x) q) _ t), eqb-true (weight ls k q) v (and-left (eqb (weight ls k q) v) _ r), eqb-true (repaired N k x) m (and-right (eqb (weight ls k q) v) _ r))
-  shown k w (lines.least q v) t =
-      let r = and-right (isPlan N ls k q) _ t in
-      least-shown k q v w (and-left (isPlan N ls k q) _ t) (eqb-true (weight ls k q) v (and-left (eqb (weight ls k q) v) _ r)) (and-right (eqb (weight ls k q) v) _ r)
-  shown k w lines.nothing-below t = below-shown k w t
-  shown k w lines.no-plan t = none-shown k w t
+  shown k w f (lines.bits b) t = eqb-true (instanceBy A site k .bits) b t
+  shown k w f (lines.A a) t = eqb-true (instanceBy A site k .penalty) a t
+  shown k w f (lines.constant c) t = int-same (constantOf (instanceBy A site k .formula)) c t
+  shown k w f (lines.row i r) t = ints-same (rowOf (instanceBy A site k .formula) (instanceBy A site k .bits) i) r t
+  shown k w f (lines.pair i j z) t = int-same (pairOf (instanceBy A site k .formula) i j) z t
+  shown k w f (lines.energy x e) t = int-same (energyOf (instanceBy A site k) x) (pos e) t
+  shown k w f (lines.plan q) t = t
+  shown k w f (lines.plan-of q v) t =
+      let I = instanceBy A site k in
+      let r = and-right (I .isPlan q) _ t in
+      (and-left (I .isPlan q) _ t, eqb-true (I .weight q) v (and-left (eqb (I .weight q) v) _ r), int-same (energyOf I (I .codeOf q)) (pos v) (and-right (eqb (I .weight q) v) _ r))
+  shown k w f (lines.just qs) t = listed-shown k qs t
+  shown k w f (lines.no-plan-12 q) t =
+      let I = instanceBy A site k in
+      λ x h. refused-shown I q x (eqb-true (length q) (I .planBytes) (and-left (eqb (length q) (I .planBytes)) _ t)) (not-true (I .isPlan q) (and-right (eqb (length q) (I .planBytes)) _ t)) h
+  shown k w f (lines.repairs x q v m) t =
+      let I = instanceBy A site k in
+      let r = and-right (alike (I .decoded x) q) _ t in
+      (alike-same (I .decoded x) q (and-left (alike (I .decoded x) q) _ t), eqb-true (I .weight q) v (and-left (eqb (I .weight q) v) _ r), eqb-true (I .repaired x) m (and-right (eqb (I .weight q) v) _ r))
+  shown k w f (lines.least q v) t =
+      let I = instanceBy A site k in
+      let r = and-right (I .isPlan q) _ t in
+      least-shown k q v w f (and-left (I .isPlan q) _ t) (eqb-true (I .weight q) v (and-left (eqb (I .weight q) v) _ r)) (and-right (eqb (I .weight q) v) _ r)
+  shown k w f lines.nothing-below t = below-shown k w f t
+  shown k w f lines.no-plan t = none-shown k w t
 
 -- ---- the whole table
 
 -- the site is one that an image can have, the kind's limits hold, and every line passes
 passes : Worked → Bool
 passes e =
-    leb 1 (e .meters)
-    && (leb (e .meters) 48
-    && (leb (length (e .site)) 256
-    && (all (linkOk (e .meters)) (e .site)
-    && (ascending (e .site)
-    && (limitsHold (e .meters) (e .kind)
-    && all (holds (e .meters) (e .site) (e .kind)) (e .lines))))))
+    leb 1 (e .site .meters)
+    && (leb (e .site .meters) 48
+    && (leb (length (e .site .links)) 256
+    && (all (linkOk (e .site .meters)) (e .site .links)
+    && (ascending (e .site .links)
+    && (limitsHold (e .site .meters) (kindOf (e .ask))
+    && all (holds (e .site) (kindOf (e .ask)) (instanceOf (e .site) (e .ask))) (e .lines))))))
 
 -- computed
 table-passes : all passes table ≡ true
-unfolding table passes holds same-int same-ints lightest unplanned among listed undivided all alike from every any tried options noLighter noPlan limitsHold bitCount penalty formulaBy isPlan weight codeOf decoded repaired linkOk ascending ascendingFrom before total isAt hasEnds present sumTo sumOf greatest leastAt lowest same differ nth rowOf bitAt setAt oneHots areChoices code c-formula.withinLimits c-formula.load c-formula.penalty c-formula.clashTerms c-formula.formula c-plans.isPlan c-plans.codeOf c-plans.clashWeight c-repair.bears c-repair.heard c-repair.quietest c-repair.repairOne c-repair.repairBy c-repair.decoded c-repair.repaired g-formula.withinLimits g-formula.penalty g-formula.sizeTerms g-formula.cutTerms g-formula.formula tree-formula.withinLimits tree-formula.penalty tree-formula.formulaTo tree-plans.fewNeighbours tree-plans.isPlan tree-plans.treeWeight tree-plans.depthChoices tree-plans.arcChoice tree-plans.arcChoices tree-plans.countChoices tree-plans.codeOf deepest depthOf atMost linked parentLinked rootsOf isRooted neighbours isUsed treeLinks arcs arcsFrom depthTerms entryTerms endTerms weightTerms countTerms degreeTerms
+unfolding table passes holds same-int same-ints lightest unplanned among listed undivided all alike from every any tried options noLighter noPlan kindOf limitsHold penaltyOf penaltyAsked instanceBy instanceOf linkOk ascending ascendingFrom before total isAt hasEnds present sumTo sumOf greatest leastAt lowest same differ nth rowOf bitAt setAt oneHots areChoices code c-formula.withinLimits c-formula.load c-formula.penalty c-formula.clashTerms c-formula.formula c-plans.isPlan c-plans.codeOf c-plans.clashWeight c-repair.bears c-repair.heard c-repair.quietest c-repair.repairOne c-repair.repairBy c-repair.decoded c-repair.repaired g-formula.withinLimits g-formula.penalty g-formula.sizeTerms g-formula.cutTerms g-formula.formula tree-formula.withinLimits tree-formula.penalty tree-formula.formulaTo tree-plans.fewNeighbours tree-plans.isPlan tree-plans.treeWeight tree-plans.depthChoices tree-plans.arcChoice tree-plans.arcChoices tree-plans.countChoices tree-plans.codeOf deepest depthOf atMost linked parentLinked rootsOf isRooted neighbours isUsed treeLinks arcs arcsFrom depthTerms entryTerms endTerms weightTerms countTerms degreeTerms
 table-passes = refl
 
 -- one entry
-entry-shown : (e : Worked) → passes e ≡ true → (l : Line) → List·Memᴰ l (e .lines) → Means (e .meters) (e .site) (e .kind) l
-unfolding passes
+entry-shown : (e : Worked) → passes e ≡ true → (l : Line) → List·Memᴰ l (e .lines) → Means (instanceOf (e .site) (e .ask)) l
+unfolding passes instanceOf
 entry-shown e t l i =
-    let r1 = and-right (leb 1 (e .meters)) _ t in
-    let r2 = and-right (leb (e .meters) 48) _ r1 in
-    let r3 = and-right (leb (length (e .site)) 256) _ r2 in
-    let r4 = and-right (all (linkOk (e .meters)) (e .site)) _ r3 in
-    let r5 = and-right (ascending (e .site)) _ r4 in
-    let r6 = and-right (limitsHold (e .meters) (e .kind)) _ r5 in
-    let v : Survey (e .meters) (e .site) = record {
-      meters-low = leb-true 1 (e .meters) (and-left (leb 1 (e .meters)) _ t);
-      meters-high = leb-true (e .meters) 48 (and-left (leb (e .meters) 48) _ r1);
-      few = leb-true (length (e .site)) 256 (and-left (leb (length (e .site)) 256) _ r2);
-      each = and-left (all (linkOk (e .meters)) (e .site)) _ r3;
-      rises = and-left (ascending (e .site)) _ r4;
+    let N = e .site .meters in
+    let ls = e .site .links in
+    let k = kindOf (e .ask) in
+    let r1 = and-right (leb 1 N) _ t in
+    let r2 = and-right (leb N 48) _ r1 in
+    let r3 = and-right (leb (length ls) 256) _ r2 in
+    let r4 = and-right (all (linkOk N) ls) _ r3 in
+    let r5 = and-right (ascending ls) _ r4 in
+    let r6 = and-right (limitsHold N k) _ r5 in
+    let v : Survey N ls = record {
+      meters-low = leb-true 1 N (and-left (leb 1 N) _ t);
+      meters-high = leb-true N 48 (and-left (leb N 48) _ r1);
+      few = leb-true (length ls) 256 (and-left (leb (length ls) 256) _ r2);
+      each = and-left (all (linkOk N) ls) _ r3;
+      rises = and-left (ascending ls) _ r4;
     } in
-    shown (e .meters) (e .site) v (e .kind) (and-left (limitsHold (e .meters) (e .kind)) _ r5) l (all-member (holds (e .meters) (e .site) (e .kind)) (e .lines) r6 l i)
+    shown N ls v (penaltyAsked (e .site) (e .ask)) k (and-left (limitsHold N k) _ r5) (asked-from (e .site) (e .ask)) l (all-member (holds (e .site) k (instanceOf (e .site) (e .ask))) (e .lines) r6 l i)
 
 -- every line of the table is as 01 says
-pub worked : (e : Worked) → List·Memᴰ e table → (l : Line) → List·Memᴰ l (e .lines) → Means (e .meters) (e .site) (e .kind) l
+pub worked : (e : Worked) → List·Memᴰ e table → (l : Line) → List·Memᴰ l (e .lines) → Means (instanceOf (e .site) (e .ask)) l
 worked e i = entry-shown e (all-member passes table table-passes e i)

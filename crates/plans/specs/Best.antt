@@ -1,11 +1,11 @@
--- The words of the demands, of the bytes s of an image, the number k of a kind and its parameter p. Assumes nothing.
+-- The words of the demands, of the bytes s of an image and what is asked; those of energies and plans are in qubo/specs/Instance. Assumes nothing.
 use Prim.Native.Nat.{ℕ}
 use mathlib.Core.Path.{_≡_}
 use mathlib.Core.Bool.{Bool, true, false, _&&_, cond}
 use mathlib.Core.List.{List, [], _∷_}
 use lib.Dec.{eqb, ltb}
-use Rattle.qubo.specs.Best as best
-use Rattle.plans.specs.Calls.{bitsIn, formulaIn, isPlanIn, weightIn, codeIn, acceptNumberIn}
+use Rattle.plans.specs.declared.Ask.{Ask}
+use Rattle.plans.specs.Calls.{acceptNumberIn}
 
 -- ---- which refusal is given, of a list of numbers with their tests
 
@@ -33,24 +33,8 @@ risesFrom low (x ∷ xs) = ltb low (place (x .0)) && risesFrom (place (x .0)) xs
 abbrev pub InOrder : List (ℕ × Bool) → Type 0
 InOrder xs = risesFrom 0 xs ≡ true
 
--- ---- least energy, and plans
+-- ---- what is accepted
 
 -- "An image and a kind with its parameter are accepted when no number that concerns them .. applies"
-abbrev pub Accepted : List ℕ → ℕ → ℕ → Type 0
-Accepted s k p = acceptNumberIn s k p ≡ 0
-
--- no assignment has less energy than x
-abbrev pub LeastEnergyIn : List ℕ → ℕ → ℕ → List ℕ → Type 0
-LeastEnergyIn s k p x = best.LeastEnergy (formulaIn s k p) (bitsIn s k p) x
-
--- "An assignment codes a plan when it is that plan's code"
-abbrev pub CodesPlanIn : List ℕ → ℕ → ℕ → List ℕ → Type 0
-CodesPlanIn s k p x = best.CodesPlan (isPlanIn s k p) (codeIn s k p) x
-
--- q is a plan of least weight
-abbrev pub LeastPlanIn : List ℕ → ℕ → ℕ → List ℕ → Type 0
-LeastPlanIn s k p q = best.LeastPlan (isPlanIn s k p) (weightIn s k p) q
-
--- x is the code of a plan of least weight
-abbrev pub CodesLeastIn : List ℕ → ℕ → ℕ → List ℕ → Type 0
-CodesLeastIn s k p x = best.CodesLeast (isPlanIn s k p) (weightIn s k p) (codeIn s k p) x
+abbrev pub Accepted : List ℕ → Ask → Type 0
+Accepted s a = acceptNumberIn s a ≡ 0

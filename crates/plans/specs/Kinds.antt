@@ -1,28 +1,32 @@
--- What document 01 says of each kind, by cases of the kind: N is the number of meters, M the number of links, ls the links. Each case is the definition in that kind's own crate. Assumes nothing.
+-- What document 01 says of each kind, by cases of the kind: its limits, its penalty, and its instance. Each case is the definition in that kind's own crate. Assumes nothing.
 use Prim.Native.Nat.{ℕ}
-use mathlib.Core.Bool.{Bool, true, cond}
+use mathlib.Core.Bool.{Bool, cond}
 use mathlib.Core.List.{List}
 use lib.Dec.{eqb}
-use Rattle.links.specs.Links.{Link}
-use Rattle.qubo.specs.Formula.{Formula}
+use Rattle.links.specs.Links.{Link, linksOf}
+use Rattle.qubo.specs.Instance.{Instance}
 use Rattle.channels.specs.Formula as channels
-use Rattle.channels.specs.Plans as channels-plans
-use Rattle.channels.specs.Repair as channels-repair
-use Rattle.onehot.specs.Choices as onehot
+use Rattle.channels.specs.Instance as channels-instance
 use Rattle.groups.specs.Formula as groups
-use Rattle.groups.specs.Plans as groups-plans
-use Rattle.groups.specs.Decoding as groups-decoding
+use Rattle.groups.specs.Instance as groups-instance
 use Rattle.tree.specs.Formula as tree
-use Rattle.tree.specs.Plans as tree-plans
-use Rattle.tree.specs.Decoding as tree-decoding
+use Rattle.tree.specs.Instance as tree-instance
+use Rattle.plans.specs.declared.Ask.{Ask}
 use Rattle.plans.specs.declared.Kind.{Kind}
 use Rattle.plans.specs.declared.Kind.the-variants.{Channels, Groups, Tree}
 
--- "Kind 1, channels, carries n", "kind 2, groups, carries m", "kind 3, tree, carries a neighbour limit d": the kind that a number and a parameter name. Any other number is refused by 7
-unfoldable pub kindOf : ℕ → ℕ → Kind
-kindOf k p = cond (eqb k 1) (Channels p) (cond (eqb k 2) (Groups p) (Tree p))
+-- what a kind is asked about: so many meters, with these links
+pub record Site : Type 0 where
+  pub meters : ℕ
+  pub links : List Link
 
--- ---- limits, bits and energies
+-- with the links in three arrays
+abbrev pub siteOf : ℕ → List ℕ → List ℕ → List ℕ → Site
+siteOf N us vs ws = record { meters = N; links = linksOf us vs ws }
+
+-- "Kind 1, channels, carries n", "kind 2, groups, carries m", "kind 3, tree, carries a neighbour limit d": the kind that is asked for. Any other number is refused by 7
+unfoldable pub kindOf : Ask → Kind
+kindOf a = cond (eqb (a .kind) 1) (Channels (a .parameter)) (cond (eqb (a .kind) 2) (Groups (a .parameter)) (Tree (a .parameter)))
 
 -- "Each kind's limits .. belong to that kind"
 unfoldable pub limitsHold : ℕ → Kind → Bool
@@ -30,64 +34,24 @@ limitsHold N (Channels n) = channels.withinLimits n
 limitsHold N (Groups m) = groups.withinLimits m
 limitsHold N (Tree d) = tree.withinLimits N d
 
--- "and its bit count"
-unfoldable pub bitCount : ℕ → ℕ → Kind → ℕ
-bitCount N M (Channels n) = channels.bitCount N n
-bitCount N M (Groups m) = groups.bitCount N m
-bitCount N M (Tree d) = tree.bitCount N M d
+-- 01's A
+unfoldable pub penaltyOf : Site → Kind → ℕ
+penaltyOf s (Channels n) = channels.penalty (s .meters) (s .links)
+penaltyOf s (Groups m) = groups.penalty (s .links)
+penaltyOf s (Tree d) = tree.penalty (s .links)
 
--- A
-unfoldable pub penalty : ℕ → List Link → Kind → ℕ
-penalty N ls (Channels n) = channels.penalty N ls
-penalty N ls (Groups m) = groups.penalty ls
-penalty N ls (Tree d) = tree.penalty ls
+-- what its own crate defines: bit count, energy, plans, codes and decoding, for any A
+unfoldable pub instanceBy : ℕ → Site → Kind → Instance
+instanceBy A s (Channels n) = channels-instance.instance A (s .meters) n (s .links)
+instanceBy A s (Groups m) = groups-instance.instance A (s .meters) m (s .links)
+instanceBy A s (Tree d) = tree-instance.instance A (s .meters) d (s .links)
 
--- the energy as a formula over bits, for any A
-unfoldable pub formulaBy : ℕ → ℕ → List Link → Kind → Formula
-formulaBy A N ls (Channels n) = channels.formula A N n ls
-formulaBy A N ls (Groups m) = groups.formula A N m ls
-formulaBy A N ls (Tree d) = tree.formula A N d ls
+-- ---- of what is asked
 
--- with 01's A
-abbrev pub formula : ℕ → List Link → Kind → Formula
-formula N ls k = formulaBy (penalty N ls k) N ls k
+-- A: that of the kind
+unfoldable pub penaltyAsked : Site → Ask → ℕ
+penaltyAsked s a = penaltyOf s (kindOf a)
 
--- ---- plans and their codes
-
--- the bytes are a plan
-unfoldable pub isPlan : ℕ → List Link → Kind → List ℕ → Bool
-isPlan N ls (Channels n) p = channels-plans.isPlan N n p
-isPlan N ls (Groups m) p = groups-plans.isPlan N m p
-isPlan N ls (Tree d) p = tree-plans.isPlan N d ls p
-
--- "its clash weight .., its cut weight .. or its tree's weight"
-unfoldable pub weight : List Link → Kind → List ℕ → ℕ
-weight ls (Channels n) p = channels-plans.clashWeight ls p
-weight ls (Groups m) p = groups-plans.cutWeight ls p
-weight ls (Tree d) p = tree-plans.treeWeight ls p
-
--- its code
-unfoldable pub codeOf : ℕ → List Link → Kind → List ℕ → List ℕ
-codeOf N ls (Channels n) p = channels-plans.codeOf n p
-codeOf N ls (Groups m) p = groups-plans.codeOf m p
-codeOf N ls (Tree d) p = tree-plans.codeOf N d ls p
-
--- ---- decoding
-
--- bits decode to a plan: those of channels always do, "group or tree bits" where they code one
-unfoldable pub decodes : ℕ → List Link → Kind → List ℕ → Bool
-decodes N ls (Channels n) x = true
-decodes N ls (Groups m) x = groups-decoding.codesPlan N m x
-decodes N ls (Tree d) x = tree-decoding.codesPlan N d ls x
-
--- to this one
-unfoldable pub decoded : ℕ → List Link → Kind → List ℕ → List ℕ
-decoded N ls (Channels n) x = channels-repair.decoded N n ls x
-decoded N ls (Groups m) x = onehot.candidate N m x
-decoded N ls (Tree d) x = tree-decoding.candidate N ls x
-
--- "the number of meters mended"; "Groups and trees are never mended: the number is 0"
-unfoldable pub repaired : ℕ → Kind → List ℕ → ℕ
-repaired N (Channels n) x = channels-repair.repaired N n x
-repaired N (Groups m) x = 0
-repaired N (Tree d) x = 0
+-- the instance
+unfoldable pub instanceOf : Site → Ask → Instance
+instanceOf s a = instanceBy (penaltyAsked s a) s (kindOf a)

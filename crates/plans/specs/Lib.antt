@@ -4,4 +4,4 @@ pub mod Answers
 pub mod Calls
 pub mod Best
 pub mod Surveys
-pub mod Lent
+pub mod Inner

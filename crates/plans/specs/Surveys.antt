@@ -7,13 +7,13 @@ use lib.ListN.{length}
 use lib.IntN.{ℤ, pos, negsuc}
 use lib.Signed.{_≤ℤ_}
 use Rattle.links.specs.Links.{Link}
-use Rattle.qubo.specs.Formula.{Assignment, value}
+use Rattle.qubo.specs.Formula.{Assignment}
 use Rattle.qubo.specs.Table.{constantOf, pairOf, rowOf}
-use Rattle.qubo.specs.Best.{LeastEnergy}
-use Rattle.plans.specs.declared.Kind.{Kind}
-use Rattle.plans.specs.declared.Kind.the-variants.{Channels, Groups, Tree}
-use Rattle.plans.specs.Kinds.{bitCount, penalty, formula, isPlan, weight, codeOf, decoded, repaired}
-use Rattle.plans.specs.Calls.{codeNumber}
+use Rattle.qubo.specs.Instance.{Instance, energyOf, LeastEnergy}
+use Rattle.site.specs.Refusal.{refusal}
+use Rattle.plans.specs.declared.Ask.{Ask}
+use Rattle.plans.specs.Kinds.{Site}
+use Rattle.plans.specs.Refusals.{codeTests}
 
 -- what a line may say
 pub data Line : Type 0 where
@@ -27,51 +27,53 @@ pub data Line : Type 0 where
   plan-of : List ℕ → ℕ → Line
   just : List (List ℕ) → Line
   no-plan-12 : List ℕ → Line
-  mended : List ℕ → List ℕ → ℕ → ℕ → Line
+  repairs : List ℕ → List ℕ → ℕ → ℕ → Line
   least : List ℕ → ℕ → Line
   nothing-below : Line
   no-plan : Line
 
--- what it means, of a site of N meters with the links ls and a kind
-abbrev pub Means : ℕ → List Link → Kind → Line → Type 0
+-- what it means, of an instance
+abbrev pub Means : Instance → Line → Type 0
 -- there are b bits
-Means N ls k (bits b) = bitCount N (length ls) k ≡ b
+Means I (bits b) = I .bits ≡ b
 -- A is a
-Means N ls k (A a) = penalty N ls k ≡ a
+Means I (A a) = I .penalty ≡ a
 -- the constant is c
-Means N ls k (constant c) = constantOf (formula N ls k) ≡ c
+Means I (constant c) = constantOf (I .formula) ≡ c
 -- row i is r
-Means N ls k (row i r) = rowOf (formula N ls k) (bitCount N (length ls) k) i ≡ r
+Means I (row i r) = rowOf (I .formula) (I .bits) i ≡ r
 -- the number of the pair (i, j) is z
-Means N ls k (pair i j z) = pairOf (formula N ls k) i j ≡ z
+Means I (pair i j z) = pairOf (I .formula) i j ≡ z
 -- the bits x have energy e
-Means N ls k (energy x e) = value (formula N ls k) x ≡ pos e
+Means I (energy x e) = energyOf I x ≡ pos e
 -- q is a plan
-Means N ls k (plan q) = isPlan N ls k q ≡ true
+Means I (plan q) = I .isPlan q ≡ true
 -- q is a plan of weight w, and its code has energy w
-Means N ls k (plan-of q w) = (isPlan N ls k q ≡ true) × (weight ls k q ≡ w) × (value (formula N ls k) (codeOf N ls k q) ≡ pos w)
+Means I (plan-of q w) = (I .isPlan q ≡ true) × (I .weight q ≡ w) × (energyOf I (I .codeOf q) ≡ pos w)
 -- there are no plans but those in qs
-Means N ls k (just qs) = (q : List ℕ) → isPlan N ls k q ≡ true → List·Memᴰ q qs
+Means I (just qs) = (q : List ℕ) → I .isPlan q ≡ true → List·Memᴰ q qs
 -- q is none, and coding it gives 12
-Means N ls k (no-plan-12 q) = (x : List ℕ) → length x ≡ bitCount N (length ls) k → codeNumber [] N ls k q x ≡ 12
--- the bits x are mended to q, of weight w, with m meters mended
-Means N ls k (mended x q w m) = (decoded N ls k x ≡ q) × (weight ls k q ≡ w) × (repaired N k x ≡ m)
+Means I (no-plan-12 q) = (x : List ℕ) → length x ≡ I .bits → refusal (codeTests I q x) ≡ 12
+-- the bits x are repaired to q, of weight w, with m meters repaired
+Means I (repairs x q w m) = (I .decoded x ≡ q) × (I .weight q ≡ w) × (I .repaired x ≡ m)
 -- w is the least energy of all assignments, and q is a plan of that weight
-Means N ls k (least q w) = (isPlan N ls k q ≡ true) × (weight ls k q ≡ w)
-    × ((x : List ℕ) × Assignment (bitCount N (length ls) k) x × LeastEnergy (formula N ls k) (bitCount N (length ls) k) x × (value (formula N ls k) x ≡ pos w))
+Means I (least q w) = (I .isPlan q ≡ true) × (I .weight q ≡ w) × ((x : List ℕ) × Assignment (I .bits) x × LeastEnergy I x × (energyOf I x ≡ pos w))
 -- no assignment has energy below A
-Means N ls k nothing-below = (x : List ℕ) → Assignment (bitCount N (length ls) k) x → pos (penalty N ls k) ≤ℤ value (formula N ls k) x
+Means I nothing-below = (x : List ℕ) → Assignment (I .bits) x → pos (I .penalty) ≤ℤ energyOf I x
 -- there is no plan
-Means N ls k no-plan = (q : List ℕ) → isPlan N ls k q ≡ true → ⊥
+Means I no-plan = (q : List ℕ) → I .isPlan q ≡ true → ⊥
 
 -- ---- the table
 
--- a site, a kind with its parameter, and what 01 says of them
+-- a site, what is asked of it, and what 01 says of the two
 pub record Worked : Type 0 where
-  pub meters : ℕ
-  pub site : List Link
-  pub kind : Kind
+  pub site : Site
+  pub ask : Ask
   pub lines : List Line
+
+-- kind k with the parameter p
+abbrev pub asks : ℕ → ℕ → Ask
+asks k p = record { kind = k; parameter = p }
 
 -- the link between u and v of weight w
 abbrev pub link : ℕ → ℕ → ℕ → Link
@@ -86,9 +88,8 @@ unfoldable pub table : List Worked
 table =
     -- the listing; "bits 1001 have energy 0, all-zero bits 8"
     record {
-      meters = 2;
-      site = link 1 2 3 ∷ [];
-      kind = Channels 2;
+      site = record { meters = 2; links = link 1 2 3 ∷ [] };
+      ask = asks 1 2;
       lines =
           bits 4
           ∷ constant (pos 8)
@@ -102,9 +103,8 @@ table =
     }
     -- "two meters, weight 3, m = 2: constant 14, pair (0,3) is -14, pair (0,2) is 8, pair (0,1) is 0. Bits 1001: 6, below A = 7. Bits 1010: 28."
     ∷ record {
-      meters = 2;
-      site = link 1 2 3 ∷ [];
-      kind = Groups 2;
+      site = record { meters = 2; links = link 1 2 3 ∷ [] };
+      ask = asks 2 2;
       lines =
           constant (pos 14)
           ∷ pair 0 3 (negsuc 13)
@@ -117,9 +117,8 @@ table =
     }
     -- "two meters, weight 5, d = 1: 8 bits, A = 6, both plans 5, all-zero bits 30"
     ∷ record {
-      meters = 2;
-      site = link 1 2 5 ∷ [];
-      kind = Tree 1;
+      site = record { meters = 2; links = link 1 2 5 ∷ [] };
+      ask = asks 3 1;
       lines =
           bits 8
           ∷ A 6
@@ -131,22 +130,20 @@ table =
     }
     -- "all ten links on five meters, weight 1, n = 2, A = 5. Meters 1, 3 on channel 1, 2, 4 on 2, 5 on none: energy 7; mended to channel 1, weight 4, one meter"
     ∷ record {
-      meters = 5;
-      site = link 1 2 1 ∷ link 1 3 1 ∷ link 1 4 1 ∷ link 1 5 1 ∷ link 2 3 1 ∷ link 2 4 1 ∷ link 2 5 1 ∷ link 3 4 1 ∷ link 3 5 1 ∷ link 4 5 1 ∷ [];
-      kind = Channels 2;
+      site = record { meters = 5; links = link 1 2 1 ∷ link 1 3 1 ∷ link 1 4 1 ∷ link 1 5 1 ∷ link 2 3 1 ∷ link 2 4 1 ∷ link 2 5 1 ∷ link 3 4 1 ∷ link 3 5 1 ∷ link 4 5 1 ∷ [] };
+      ask = asks 1 2;
       lines =
           A 5
           ∷ energy (1 ∷ 0 ∷ 0 ∷ 1 ∷ 1 ∷ 0 ∷ 0 ∷ 1 ∷ 0 ∷ 0 ∷ []) 7
-          ∷ mended (1 ∷ 0 ∷ 0 ∷ 1 ∷ 1 ∷ 0 ∷ 0 ∷ 1 ∷ 0 ∷ 0 ∷ []) (1 ∷ 2 ∷ 1 ∷ 2 ∷ 1 ∷ []) 4 1
+          ∷ repairs (1 ∷ 0 ∷ 0 ∷ 1 ∷ 1 ∷ 0 ∷ 0 ∷ 1 ∷ 0 ∷ 0 ∷ []) (1 ∷ 2 ∷ 1 ∷ 2 ∷ 1 ∷ []) 4 1
           ∷ [];
     }
     -- "d = 2 gives least 60,003"
-    ∷ record { meters = 5; site = five; kind = Tree 2; lines = least (3 ∷ 1 ∷ 0 ∷ 5 ∷ 3 ∷ []) 60003 ∷ [] }
+    ∷ record { site = record { meters = 5; links = five }; ask = asks 3 2; lines = least (3 ∷ 1 ∷ 0 ∷ 5 ∷ 3 ∷ []) 60003 ∷ [] }
     -- "Letting several neighbour-count bits be set breaks the limit": the lighter tree, with the bits of one and of two neighbours set at meter 1, costs A more than its weight
     ∷ record {
-      meters = 5;
-      site = five;
-      kind = Tree 2;
+      site = record { meters = 5; links = five };
+      ask = asks 3 2;
       lines =
           A 60005
           ∷ energy
@@ -157,16 +154,15 @@ table =
           ∷ [];
     }
     -- "d = 3 gives 4"
-    ∷ record { meters = 5; site = five; kind = Tree 3; lines = least (0 ∷ 1 ∷ 1 ∷ 1 ∷ 4 ∷ []) 4 ∷ [] }
+    ∷ record { site = record { meters = 5; links = five }; ask = asks 3 3; lines = least (0 ∷ 1 ∷ 1 ∷ 1 ∷ 4 ∷ []) 4 ∷ [] }
     -- "star of three leaves, weight 1, d = 2: nothing below A = 4"
-    ∷ record { meters = 4; site = link 1 2 1 ∷ link 1 3 1 ∷ link 1 4 1 ∷ []; kind = Tree 2; lines = A 4 ∷ nothing-below ∷ [] }
+    ∷ record { site = record { meters = 4; links = link 1 2 1 ∷ link 1 3 1 ∷ link 1 4 1 ∷ [] }; ask = asks 3 2; lines = A 4 ∷ nothing-below ∷ [] }
     -- "path 1-2-3-4, d = 2: root 2 is a plan, root 1 gives 12"
     ∷ record {
-      meters = 4;
-      site = link 1 2 1 ∷ link 2 3 1 ∷ link 3 4 1 ∷ [];
-      kind = Tree 2;
+      site = record { meters = 4; links = link 1 2 1 ∷ link 2 3 1 ∷ link 3 4 1 ∷ [] };
+      ask = asks 3 2;
       lines = plan (2 ∷ 0 ∷ 2 ∷ 3 ∷ []) ∷ no-plan-12 (0 ∷ 1 ∷ 2 ∷ 3 ∷ []) ∷ [];
     }
     -- "three meters, m = 2: no plan"
-    ∷ record { meters = 3; site = []; kind = Groups 2; lines = no-plan ∷ [] }
+    ∷ record { site = record { meters = 3; links = [] }; ask = asks 2 2; lines = no-plan ∷ [] }
     ∷ []

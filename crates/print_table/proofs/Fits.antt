@@ -8,6 +8,7 @@ use native.Mathlib.Omega.{arith}
 use native.Mathlib.Nat.{pow-le-pow-right}
 use native.Mathlib.Decide.{decLe}
 use Rattle.io.specs.Digits.{Fewest}
+use Rattle.plans.specs.declared.Ask.{Ask}
 use Rattle.plans.specs.Calls.{rowPartIn}
 use Rattle.plans.proofs.Accepted.{part-few}
 
@@ -23,5 +24,5 @@ few-digits n k h f =
     ]
 
 -- a row has at most 8,192 numbers
-pub few-numbers : (s : List ℕ) (k p i room : ℕ) (xs : List ℤ) → xs ≡ rowPartIn s k p i room → length xs ≤ 8192
-few-numbers s k p i room xs e = rw e (part-few s k p i room)
+pub few-numbers : (s : List ℕ) (a : Ask) (i room : ℕ) (xs : List ℤ) → xs ≡ rowPartIn s a i room → length xs ≤ 8192
+few-numbers s a i room xs e = rw e (part-few s a i room)

@@ -11,6 +11,7 @@ use crate::lines::Buffered;
 use libc::STDERR_FILENO;
 use libc::STDIN_FILENO;
 use libc::STDOUT_FILENO;
+use plans::Ask;
 use plans::Number;
 
 // Image, kind and parameter.
@@ -66,15 +67,14 @@ fn show_row(
     out: &mut [u8; 65536],
     start: usize,
     image: &[u8],
-    kind: u64,
-    parameter: u64,
+    ask: Ask,
     i: u64,
     places: &mut [i64],
 ) -> Buffered
     requires { ⌜ (start ≤ 65536) × (i < 8192) ⌝ }
     ensures { λ r. ⌜ r .at ≤ 65536 ⌝ }
 {
-    let row = plans::row(image, kind, parameter, i, places);
+    let row = plans::row(image, ask, i, places);
     put_row(out, start, i, &row[..])
 }
 
@@ -83,15 +83,14 @@ fn show_row_in(
     out: &mut [u8; 65536],
     start: usize,
     image: &[u8],
-    kind: u64,
-    parameter: u64,
+    ask: Ask,
     i: u64,
     places: &mut [i64; 8192],
 ) -> Buffered
     requires { ⌜ (start ≤ 65536) × (i < 8192) ⌝ }
     ensures { λ r. ⌜ r .at ≤ 65536 ⌝ }
 {
-    show_row(out, start, image, kind, parameter, i, places)
+    show_row(out, start, image, ask, i, places)
 }
 
 // There is a row for each bit; no table has more than 8,192.
@@ -103,14 +102,14 @@ fn row_count(bits: i64) -> u64
 }
 
 // The table, row by row.
-fn show_table(image: &[u8], kind: u64, parameter: u64, bits: i64, constant: i64) -> bool {
+fn show_table(image: &[u8], ask: Ask, bits: i64, constant: i64) -> bool {
     let mut out = io::large_buffer();
     let mut places = [0i64; 8192];
     let mut at = put_head(&mut out, bits, constant);
     let rows = row_count(bits);
     let mut i: u64 = 0;
     while i < rows {
-        let place = show_row_in(&mut out, at, image, kind, parameter, i, &mut places);
+        let place = show_row_in(&mut out, at, image, ask, i, &mut places);
         if place.failed {
             return false;
         }
@@ -121,33 +120,36 @@ fn show_table(image: &[u8], kind: u64, parameter: u64, bits: i64, constant: i64)
 }
 
 // The constant is refused where the bit count is, and nowhere else.
-fn show_bits(image: &[u8], kind: u64, parameter: u64, bits: i64) -> bool {
-    let constant = plans::constant(image, kind, parameter);
+fn show_bits(image: &[u8], ask: Ask, bits: i64) -> bool {
+    let constant = plans::constant(image, ask);
     match constant {
         Number::Refused(number) => print_refusal(number),
-        Number::Value(z) => show_table(image, kind, parameter, bits, z),
+        Number::Value(z) => show_table(image, ask, bits, z),
     }
 }
 
 // The table or the refusal.
-fn show(image: &[u8], kind: u64, parameter: u64) -> bool {
-    let bits = plans::bit_count(image, kind, parameter);
+fn show(image: &[u8], ask: Ask) -> bool {
+    let bits = plans::bit_count(image, ask);
     match bits {
         Number::Refused(number) => print_refusal(number),
-        Number::Value(count) => show_bits(image, kind, parameter, count),
+        Number::Value(count) => show_bits(image, ask, count),
     }
 }
 
 // The image stands in front.
-fn show_front(input: &[u8], kind: u64, parameter: u64) -> bool
+fn show_front(input: &[u8], ask: Ask) -> bool
     requires { ⌜ 2064 ≤ length (now input) ⌝ }
 {
-    show(&input[..KIND_AT], kind, parameter)
+    show(&input[..KIND_AT], ask)
 }
 
-// A byte, as the calls take numbers.
-fn wide(x: u8) -> u64 {
-    x as u64
+// What the two bytes behind the image ask for.
+fn asked(kind: u8, parameter: u8) -> Ask {
+    Ask {
+        kind: kind as u64,
+        parameter: parameter as u64,
+    }
 }
 
 // The answer to an input, of so many bytes. It is lent with one place more than it has, so that a longer one is seen.
@@ -155,9 +157,7 @@ fn answer(input: &[u8; 2067], len: usize) -> bool {
     if len != INPUT {
         return print_refusal(1);
     }
-    let kind = wide(input[KIND_AT]);
-    let parameter = wide(input[PARAMETER_AT]);
-    show_front(input, kind, parameter)
+    show_front(input, asked(input[KIND_AT], input[PARAMETER_AT]))
 }
 
 // The same, with standard output closed: some file systems tell only then that what they took is lost.

@@ -10,6 +10,7 @@ pub mod Penalty
 pub mod Families
 pub mod Values
 pub mod Plans
+pub mod Decoding
 pub mod RowAction
 pub mod RowTerms
 pub mod RowWalk

@@ -4,3 +4,5 @@ pub mod Norm
 pub mod Terms
 pub mod Rows
 pub mod Best
+pub mod Instance
+pub mod Decoding

@@ -18,6 +18,12 @@ pub struct Run {
     pub count: usize,
 }
 
+// What bits decode to where nothing is repaired: a plan, with its weight, or none. The plan itself lies in the lent buffer.
+pub enum Decoded {
+    Plan { weight: u64 },
+    NoPlan,
+}
+
 // Makes a row of zeros.
 pub fn clear(row: &mut [i64])
     ensures { λ _. ⌜ now (row .exit) ≡ zeros (length (now (row .entry))) ⌝ }

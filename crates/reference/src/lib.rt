@@ -71,7 +71,7 @@ pub fn bit_count(weights: &[u16; 2500], meters: usize, kind: u64, parameter: usi
 }
 
 // A.
-pub fn penalty(weights: &[u16; 2500], meters: usize, kind: u64) -> u64 {
+pub fn penalty(weights: &[u16; 2500], kind: u64) -> u64 {
     if kind == 1 {
         return channels::penalty(weights);
     }

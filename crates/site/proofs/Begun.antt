@@ -13,7 +13,7 @@ use Rattle.lists.proofs.Tests.{and-both, Equal, equal, other, equal?, length-fr
 use Rattle.site.specs.Layout.{SIZE, RECORDS, METERS, byte, word, setWord, metersAt, firstAt, freeAt, countAt, recordAt, weightAt, nextAt, padAt, meters, first, firstFree, count, endU, endV, weight, next, pad}
 use Rattle.site.specs.Image.{freeChain, linkAt, links, zeroAt, padZero, freeOk, valid}
 use Rattle.site.specs.Edits.{chained, zeros, beginBytes}
-use Rattle.site.specs.Walks.{headOk}
+use Rattle.site.specs.Inner.{headOk}
 use Rattle.site.proofs.Chain.{Linked}
 use Rattle.site.proofs.Walked.{named-yes}
 use Rattle.site.proofs.Valid.{Good, good-valid, good-links, good-frees}

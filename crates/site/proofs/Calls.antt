@@ -15,7 +15,7 @@ use Rattle.site.specs.Image.{links, valid}
 use Rattle.site.specs.Refusal.{refusal}
 use Rattle.site.specs.Edits.{checkRefusal, zeros, chained, place, after, beginBytes, beginRefusal, beginImage, addBytes, addRefusal, addImage, removeBytes, removeRefusal, removeImage}
 use Rattle.site.specs.Reading.{readMeters, readLinks, storeFrom, over}
-use Rattle.site.specs.Walks.{findRefusal, isLink, atPlace}
+use Rattle.site.specs.Inner.{findRefusal, isLink, atPlace}
 use Rattle.links.proofs.Arrays.{length-endsU, length-endsV, length-weights}
 use Rattle.site.proofs.Placed.{at-place, place-fits}
 use Rattle.site.proofs.Valid.{valid-long, links-survey}

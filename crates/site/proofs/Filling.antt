@@ -15,7 +15,7 @@ use Rattle.site.specs.Layout.{SIZE, RECORDS, byte, word, metersAt, count
 use Rattle.site.specs.Image.{linkChain, linkAt, links, named, valid}
 use Rattle.site.specs.Edits.{place}
 use Rattle.site.specs.Reading.{storeFrom, over}
-use Rattle.site.specs.Walks.{key, linkFits, walkLinks, walkFree, fillFrom, lastBefore, headOk}
+use Rattle.site.specs.Inner.{key, linkFits, walkLinks, walkFree, fillFrom, lastBefore, headOk}
 use Rattle.site.proofs.Chain.{Linked}
 use Rattle.site.proofs.Walked.{one-less, none-left, link-out, link-bad, link-on, link-end}
 use Rattle.site.proofs.Valid.{valid-good}

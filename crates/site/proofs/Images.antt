@@ -3,7 +3,7 @@ use Prim.Native.Nat.{ℕ, suc, _≤_}
 use mathlib.Core.Bool.{true, false, _&&_, cond}
 use mathlib.Core.Path.{_≡_, refl, sym, ap, _∙_, subst}
 use mathlib.Core.List.{List, [], _∷_}
-use lib.ListN.{length, replicate, take}
+use lib.ListN.{length, take}
 use lib.Dec.{eqb}
 use borrow.Author.Tests.{eq-eqb, not-false}
 use native.Mathlib.Omega.{arith}
@@ -151,14 +151,6 @@ read-out s us₀ vs₀ ws₀ us vs ws m n z em en eu ev ew lu lv lw =
       arrays = rw (q, tu, tv, tw) (arrays-of (meters s) (links s) v);
       are = rw (tu, tv, tw) (links-of-fields (links s));
     }
-
--- the whole promise of read, in local arrays of zeros, where it is not refused
-pub read-held : (s us vs ws : List ℕ) (r m n : ℕ)
-    → ((r ≡ checkRefusal s) × (m ≡ readMeters s) × (n ≡ length (readLinks s)))
-    × ((us ≡ over (endsU (readLinks s)) (replicate 256 0)) × ((vs ≡ over (endsV (readLinks s)) (replicate 256 0)) × ((ws ≡ over (weights (readLinks s)) (replicate 256 0)) × (s ≡ s))))
-    → r ≡ 0 → ReadOut s m n us vs ws
-read-held s us vs ws r m n p z =
-    read-out s _ _ _ us vs ws m n (sym (p .0 .0) ∙ z) (p .0 .1) (p .0 .2) (p .1 .0) (p .1 .1 .0) (p .1 .1 .1 .0) refl refl refl
 
 -- what is promised of the meters and links in the arrays holds of those of the image
 pub to-image : (s us vs ws : List ℕ) (m n : ℕ) → ReadOut s m n us vs ws → (P : ℕ → List Link → Type 0) → P m (linksOf (take n us) (take n vs) (take n ws)) → P (meters s) (links s)

@@ -15,7 +15,7 @@ use Rattle.links.proofs.Altered.{ends-no, ends-not, rises-ascends, rises-sooner
 use Rattle.site.specs.Layout.{RECORDS, first, firstFree, next, endU, endV}
 use Rattle.site.specs.Image.{linkChain, freeChain, linkAt, links, named, times, valid}
 use Rattle.site.specs.Edits.{slot, after, goesOn, placeFrom, place}
-use Rattle.site.specs.Walks.{lastBefore, isLink, atPlace}
+use Rattle.site.specs.Inner.{lastBefore, isLink, atPlace}
 use Rattle.site.proofs.Chain.{Linked, named-low, named-high, linked-named, linked-once, times-cons, times-here, times-append, none-of, no-zero}
 use Rattle.site.proofs.Walked.{named-no}
 use Rattle.site.proofs.Valid.{Good, valid-good, apart, all-first, all-second}

@@ -12,7 +12,7 @@ use Rattle.links.proofs.Altered.{delete-all, delete-length, delete-ascends}
 use Rattle.site.specs.Layout.{SIZE, RECORDS, meters, first, firstFree, count, next}
 use Rattle.site.specs.Image.{linkChain, freeChain, linkAt, links, padZero, freeOk, named, times, valid}
 use Rattle.site.specs.Edits.{after, place, removeRefusal, removeBytes, removeImage}
-use Rattle.site.specs.Walks.{isLink, atPlace}
+use Rattle.site.specs.Inner.{isLink, atPlace}
 use Rattle.site.proofs.Chain.{Linked, named-low, named-high, linked-named, linked-once, times-here, times-append, none-of, no-zero, not-head, not-tail}
 use Rattle.site.proofs.Valid.{Good, good-valid, valid-long, valid-good, links-length, good-links, good-frees, good-pads, apart, all-first, all-second}
 use Rattle.site.proofs.Placed.{after-zero, stands, Stops, linked-first, place-at, place-linked, place-high, place-back, place-free, valid-split, split-good, at-place, place-fits}

@@ -13,7 +13,7 @@ use Rattle.lists.proofs.Tests.{and-both, Equal, equal, other, equal?}
 use Rattle.site.specs.Layout.{SIZE, RECORDS, byte, word, setWord, setRecord, metersAt, firstAt, freeAt, countAt, recordAt, weightAt, nextAt, padAt, meters, firstFree, count, endU, endV, weight, next, pad}
 use Rattle.site.specs.Image.{linkAt, zeroAt, padZero, freeOk}
 use Rattle.site.specs.Edits.{slot, after}
-use Rattle.site.specs.Walks.{headOk}
+use Rattle.site.specs.Inner.{headOk}
 use Rattle.site.proofs.Stores.{length-word, length-record, byte-other, word-same, word-of, record-other, record-u, record-v, record-w, record-next}
 
 -- s with a as the first free record, b as the count, record r written with the ends u and v, the weight w and the next record q, and y as what follows record p

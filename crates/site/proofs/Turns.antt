@@ -16,7 +16,7 @@ use Rattle.lists.proofs.Tests.{and-true, same-test}
 use Rattle.links.proofs.Order.{Before, less, tied, before-true, before-yes}
 use Rattle.site.specs.Layout.{SIZE, RECORDS, METERS, metersAt, recordAt, meters, first, freeAt, countAt, firstFree, count, setWord, setRecord, byte, word, endU, endV, weight, next, pad}
 use Rattle.site.specs.Image.{zeroAt, linkAt, padZero, freeOk, named, valid}
-use Rattle.site.specs.Walks.{key, linkFits, isLink, headOk, walkLinks, walkFree}
+use Rattle.site.specs.Inner.{key, linkFits, isLink, headOk, walkLinks, walkFree}
 use Rattle.site.proofs.Walked.{checks-walks}
 use Rattle.site.proofs.Valid.{valid-checks}
 use Rattle.site.specs.Edits.{after, slot, place, zeros, chained, addBytes, removeBytes}

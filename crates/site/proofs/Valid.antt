@@ -14,7 +14,7 @@ use Rattle.lists.proofs.Tests.{and-left, and-right, and-both, same-test, every-
 use Rattle.links.proofs.Altered.{ascending-from, link-of}
 use Rattle.site.specs.Layout.{SIZE, RECORDS, METERS, meters, first, firstFree, count, endU, endV, next}
 use Rattle.site.specs.Image.{linkChain, freeChain, linkAt, links, zeroAt, padZero, freeOk, named, times, onceIn, rules, valid}
-use Rattle.site.specs.Walks.{linkFits, walkLinks, walkFree, headOk, checks}
+use Rattle.site.specs.Inner.{linkFits, walkLinks, walkFree, headOk, checks}
 use Rattle.site.proofs.Chain.{named-low, Linked, linked-chain, chain-linked, linked-named, linked-head, linked-once, times-append, all-at, times-all, exact-length, length-exact}
 
 -- ---- the walks as lists

@@ -11,7 +11,7 @@ use native.Mathlib.Nat.{not-suc-le-zero}
 use native.Mathlib.Numerals.{sub-one}
 use Rattle.site.specs.Layout.{SIZE, RECORDS, meters, first, firstFree, count, endU, endV, next}
 use Rattle.site.specs.Image.{freeOk, named}
-use Rattle.site.specs.Walks.{linkFits, walkLinks, walkFree, headOk, checks}
+use Rattle.site.specs.Inner.{linkFits, walkLinks, walkFree, headOk, checks}
 
 -- ---- which numbers name a record
 

@@ -3,4 +3,4 @@ pub mod Image
 pub mod Refusal
 pub mod Edits
 pub mod Reading
-pub mod Walks
+pub mod Inner

@@ -6,7 +6,7 @@ ghost use Rattle.links.specs.Links.{badEnds, low, high, present};
 ghost use Rattle.site.specs.Layout.{SIZE, RECORDS, freeAt, countAt, firstFree, count, setWord, setRecord};
 ghost use Rattle.site.specs.Image.{links};
 ghost use Rattle.site.specs.Edits.{zeros, chained, slot, after, place, addBytes, removeBytes};
-ghost use Rattle.site.specs.Walks.{isLink, findRefusal};
+ghost use Rattle.site.specs.Inner.{isLink, findRefusal};
 use crate::fields;
 use crate::fields::Record;
 use crate::rules;

@@ -11,7 +11,7 @@ ghost use Rattle.site.specs.Layout.{SIZE, RECORDS, first, firstFree, end
 ghost use Rattle.site.specs.Image.{zeroAt, named, links, valid};
 ghost use Rattle.site.specs.Edits.{place};
 ghost use Rattle.site.specs.Reading.{over};
-ghost use Rattle.site.specs.Walks.{key, headOk, walkLinks, walkFree, fillFrom, lastBefore};
+ghost use Rattle.site.specs.Inner.{key, headOk, walkLinks, walkFree, fillFrom, lastBefore};
 use crate::fields;
 use crate::fields::Record;
 

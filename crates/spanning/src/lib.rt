@@ -1,12 +1,19 @@
 // Rooted trees over a site's links: the depth of a meter, found by recursion up its parents. Definitions are in specs/; that every spanning tree has a root with no depth over N/2 is proved in proofs/.
 ghost use mathlib.Core.Path.{_≡_};
 ghost use Rattle.lists.specs.Sums.{nth};
-ghost use Rattle.spanning.specs.Parents.{depthOf};
+ghost use Rattle.spanning.specs.Parents.{deepest, depthOf};
 
 // A meter's depth, or that the steps allowed did not lead to a root.
 pub enum Depth {
     At(usize),
     Ring,
+}
+
+// D, which no depth in a plan exceeds: half the number of meters, rounded down.
+pub fn deepest(meters: usize) -> usize
+    ensures { λ r. ⌜ r ≡ deepest meters ⌝ }
+{
+    meters / 2
 }
 
 // The parent of meter v; 0 where it has none.

@@ -3,16 +3,25 @@ ghost use Prim.Native.Nat.{_≤_};
 use crate::bytes;
 use crate::lines;
 use crate::words;
+use plans::Ask;
 
 // How many numbers of a row are printed.
 const SHOWN: usize = 12;
 
+// What a line asks for: the kind K and its parameter P.
+pub fn asked(n: &[u64; 8]) -> Ask {
+    Ask {
+        kind: n[1],
+        parameter: n[2],
+    }
+}
+
 // `kind K P`: the bit count, the constant and A.
 pub fn show_kind(image: &[u8], n: &[u64; 8]) {
     lines::words(b":");
-    lines::answer(plans::bit_count(image, n[1], n[2]));
-    lines::answer(plans::constant(image, n[1], n[2]));
-    lines::answer(plans::penalty(image, n[1], n[2]));
+    lines::answer(plans::bit_count(image, asked(n)));
+    lines::answer(plans::constant(image, asked(n)));
+    lines::answer(plans::penalty(image, asked(n)));
 }
 
 // The first numbers of a slice.
@@ -27,7 +36,7 @@ fn print_front(places: &[i64]) {
 
 // How many numbers the row has that comes back.
 fn row_length(image: &[u8], n: &[u64; 8], places: &mut [i64]) -> u64 {
-    let row = plans::row(image, n[1], n[2], n[3], places);
+    let row = plans::row(image, asked(n), n[3], places);
     row.len() as u64
 }
 
@@ -53,9 +62,9 @@ fn differing(places: &[i64], others: &[i64]) -> usize {
 // The number with which the row is refused, and the length of the part that comes back; the number of the call that fills other places, in how many places what the two calls leave differs, and what
 // the first one leaves.
 fn row_in(image: &[u8], n: &[u64; 8], places: &mut [i64], others: &mut [i64]) {
-    lines::named(b": ", plans::row_refusal(image, n[1], n[2], n[3], places));
+    lines::named(b": ", plans::row_refusal(image, asked(n), n[3], places));
     lines::named(b" ", row_length(image, n, places));
-    lines::named(b" ", plans::fill_row(image, n[1], n[2], n[3], others));
+    lines::named(b" ", plans::fill_row(image, asked(n), n[3], others));
     lines::named(b" ", differing(places, others) as u64);
     print_front(places);
 }
@@ -71,8 +80,8 @@ pub fn show_row(image: &[u8], n: &[u64; 8]) {
 // The energy, then the weight and how many meters were repaired, and the plan.
 fn decode_in(image: &[u8], n: &[u64; 8], bits: &[u8], plan: &mut [u8]) {
     lines::words(b":");
-    lines::answer(plans::energy(image, n[1], n[2], bits));
-    lines::decoded(plans::decode(image, n[1], n[2], bits, plan));
+    lines::answer(plans::energy(image, asked(n), bits));
+    lines::decoded(plans::decode(image, asked(n), bits, plan));
     bytes::print(plan);
 }
 
@@ -87,7 +96,7 @@ pub fn show_decode(image: &[u8], n: &[u64; 8], line: &[u8]) {
 
 // The number returned, and the bits.
 fn encode_in(image: &[u8], n: &[u64; 8], plan: &[u8], bits: &mut [u8]) {
-    lines::named(b": ", plans::encode(image, n[1], n[2], plan, bits));
+    lines::named(b": ", plans::encode(image, asked(n), plan, bits));
     bytes::print(bits);
 }
 

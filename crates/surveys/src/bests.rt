@@ -1,5 +1,6 @@
 // Tries all plans or all assignments, and finds the least energy.
 ghost use Prim.Native.Nat.{_≤_};
+use crate::asks;
 use crate::bytes;
 use crate::lines;
 use plans::Decoded;
@@ -67,10 +68,10 @@ fn try_one(
     let base = n[5] % 10 + 1;
     if letter == b'p' {
         fill(plan, number, base);
-        return plans::encode(image, n[1], n[2], plan, bits);
+        return plans::encode(image, asks::asked(n), plan, bits);
     }
     fill(bits, number, base);
-    number_of(plans::decode(image, n[1], n[2], bits, plan))
+    number_of(plans::decode(image, asks::asked(n), bits, plan))
 }
 
 // How many there are, how many are plans, how many give 12, and the least energy.
@@ -93,7 +94,7 @@ fn try_all(image: &[u8], letter: u8, n: &[u64; 8], plan: &mut [u8], bits: &mut [
     let mut k: usize = 0;
     while k < count {
         let number = try_one(image, letter, n, plan, bits, k as u64);
-        least = lower(least, plans::energy(image, n[1], n[2], bits));
+        least = lower(least, plans::energy(image, asks::asked(n), bits));
         accepted = counted(accepted, number, 0);
         refused = counted(refused, number, 12);
         k += 1;

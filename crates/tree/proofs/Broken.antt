@@ -12,6 +12,7 @@ use Rattle.lists.proofs.Sums.{same-no, sumTo-same, sumTo-none}
 use Rattle.links.specs.Links.{Link}
 use Rattle.links.specs.Survey.{Survey}
 use Rattle.qubo.specs.Formula.{Assignment}
+use Rattle.qubo.specs.Best.{CodesPlan}
 use Rattle.spanning.specs.Parents.{deepest}
 use Rattle.spanning.proofs.Shape.{shape-test}
 use Rattle.arcs.specs.Arcs.{arcs, arcAt}
@@ -19,7 +20,6 @@ use Rattle.arcs.specs.Sums.{arcCost}
 use Rattle.tree.specs.Formula.{bitCount, bitsOf, broken}
 use Rattle.tree.specs.Plans.{isPlan, codeOf, treeWeight}
 use Rattle.tree.specs.Decoding.{candidateTo, candidate}
-use Rattle.tree.specs.Best.{CodesPlan}
 use Rattle.tree.proofs.CodeBits.{listBits, agree-code}
 use Rattle.tree.proofs.PlanFacts.{plan-test}
 use Rattle.tree.proofs.CodeSums.{code-broken, code-cost}
@@ -53,7 +53,7 @@ module _ (N d : ℕ) (ls : List Link) (s : Survey N ls) (n2 : 2 ≤ N) (x : List
       )
 
   -- and it is 0 at the code of every plan
-  pub broken-exactly : (broken N (deepest N) d (arcs ls) (bitsOf N (deepest N) (length ls) d x) ≡ 0) ↔ CodesPlan N d ls x
+  pub broken-exactly : (broken N (deepest N) d (arcs ls) (bitsOf N (deepest N) (length ls) d x) ≡ 0) ↔ CodesPlan (isPlan N d ls) (codeOf N d ls) x
   broken-exactly = (
     λ z. let r = broken-plan z in record { plan = candidate N ls x; ok = r .0; codes = r .1 },
     λ c. ap (λ (y : List ℕ). broken N (deepest N) d (arcs ls) (bitsOf N (deepest N) (length ls) d y)) (c .codes) ∙ code-broken N d ls s n2 (c .plan) (c .ok),

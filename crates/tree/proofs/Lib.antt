@@ -12,7 +12,6 @@ pub mod ReadOff
 pub mod Broken
 pub mod Value
 pub mod Bound
-pub mod AnyPenalty
 pub mod Demands
 pub mod RowParts
 pub mod Filling

@@ -1,5 +1,5 @@
 -- The three parts of a plan's code put in place one after another, and that the choices of a plan are within their bounds. Assumes nothing.
-use Prim.Native.Nat.{ℕ, zero, suc, _+_, _-_, _*_, _/_, _≤_, _<_}
+use Prim.Native.Nat.{ℕ, zero, suc, _+_, _-_, _*_, _≤_, _<_}
 use mathlib.Core.Path.{_≡_, refl, sym, ap, _∙_}
 use mathlib.Core.Bool.{Bool, true, false, cond, false≢true}
 use mathlib.Core.List.{List, [], _∷_, _++_, map, append-assoc, append-nil}
@@ -8,13 +8,12 @@ use lib.Seq.{drop-drop, drop-length, take-append-seam, drop-append-add}
 use lib.Dec.{eqb, leb}
 use native.Mathlib.Omega.{arith}
 use native.Mathlib.Decide.{decLe}
-use native.Mathlib.Numerals.{add-one}
 use borrow.Author.Tests.{eqb-true, leb-true}
 use Rattle.lists.specs.Tests.{all}
 use Rattle.lists.specs.Sums.{nth}
 use Rattle.lists.proofs.Sums.{nth-past}
 use Rattle.lists.proofs.Tests.{and-left, and-right, every-at, all-from}
-use Rattle.links.specs.Links.{Link}
+use Rattle.links.specs.Links.{Link, linksOf}
 use Rattle.onehot.specs.Choices.{code}
 use Rattle.onehot.proofs.Codes.{each-at, code-length}
 use Rattle.spanning.specs.Parents.{deepest, depthOf, atMost, isRooted, neighbours}
@@ -22,11 +21,10 @@ use Rattle.spanning.specs.declared.Depth.{Depth}
 use Rattle.spanning.specs.declared.Depth.the-variants.{At, Ring}
 use Rattle.spanning.proofs.Depths.{depth-root}
 use Rattle.spanning.proofs.Recursion.{nth-none, depth-none}
-use Rattle.arcs.specs.Arcs.{arcs}
-use Rattle.arcs.proofs.Slices.{depths-few, arcs-few}
+use Rattle.arcs.specs.Arcs.{arcs, depthsEnd, arcsEnd}
 use Rattle.tree.specs.Formula.{bitCount}
 use Rattle.tree.specs.Plans.{fewNeighbours, isPlan, bitOfDepth, arcDepth, depthChoices, arcChoice, arcChoices, countChoices, codeOf}
-use Rattle.tree.specs.Stores.{placed}
+use Rattle.tree.specs.Inner.{placed}
 use Rattle.tree.proofs.Filling.{depths-length, counts-length, arcChoices-length}
 
 -- ---- a part in its place
@@ -72,7 +70,7 @@ placed-all A B C xs k l ek el e =
 -- ---- the choices of a plan
 
 -- a depth up to D
-depth-bit-in : (D : ℕ) (o : Depth) → atMost D o ≡ true → (bitOfDepth o ≤ D + 1) × (arcDepth o ≤ D)
+depth-bit-in : (D : ℕ) (o : Depth) → atMost D o ≡ true → (bitOfDepth o ≤ suc D) × (arcDepth o ≤ D)
 unfolding atMost
 depth-bit-in D (At h) e = let l : h ≤ D = leb-true h D e in (omega arith, l)
 depth-bit-in D Ring e = absurd (false≢true e)
@@ -83,29 +81,30 @@ map-in f D h [] k = omega arith
 map-in f D h (a ∷ l) zero = h a
 map-in f D h (a ∷ l) (suc k) = map-in f D h l k
 
-module _ (N d : ℕ) (ls : List Link) (p : List ℕ) (e : isPlan N d ls p ≡ true) where
+-- where D is 01's
+module _ (N D d : ℕ) (ls : List Link) (p : List ℕ) (is : D ≡ deepest N) (e : isPlan N d ls p ≡ true) where
   -- the tests of a plan, one by one
-  rooted : isRooted N (deepest N) ls p ≡ true
+  rooted : isRooted N D ls p ≡ true
   unfolding isPlan
-  rooted = and-left (isRooted N (deepest N) ls p) _ e
+  rooted = rw is (and-left (isRooted N (deepest N) ls p) _ e)
 
   pub plan-length : length p ≡ N
   unfolding isRooted
   plan-length = eqb-true (length p) N (every-at _ 0 rooted)
 
-  depth-in : (v : ℕ) → 1 ≤ v → v ≤ N → atMost (deepest N) (depthOf p N v) ≡ true
+  depth-in : (v : ℕ) → 1 ≤ v → v ≤ N → atMost D (depthOf p N v) ≡ true
   unfolding isRooted
-  depth-in v a b = all-from (λ v. atMost (deepest N) (depthOf p N v)) 1 N v (every-at _ 3 rooted) a (omega arith)
+  depth-in v a b = all-from (λ v. atMost D (depthOf p N v)) 1 N v (every-at _ 3 rooted) a (omega arith)
 
   -- what is no meter has no depth above 0
-  arcDepth-in : (v : ℕ) → arcDepth (depthOf p N v) ≤ deepest N
+  arcDepth-in : (v : ℕ) → arcDepth (depthOf p N v) ≤ D
   arcDepth-in v =
       elim (decLe 1 v) [
-        | yes a ↦ elim (decLe v N) [ yes b ↦ depth-bit-in (deepest N) (depthOf p N v) (depth-in v a b) .1 | no b ↦ rootless (sym (nth-past p v (omega (arith, plan-length)))) ]
+        | yes a ↦ elim (decLe v N) [ yes b ↦ depth-bit-in D (depthOf p N v) (depth-in v a b) .1 | no b ↦ rootless (sym (nth-past p v (omega (arith, plan-length)))) ]
         | no a ↦ rootless (nth-none p v (omega arith))
       ]
     where
-      rootless : 0 ≡ nth p v → arcDepth (depthOf p N v) ≤ deepest N
+      rootless : 0 ≡ nth p v → arcDepth (depthOf p N v) ≤ D
       rootless z =
           elim (decLe 1 N) [
             | yes h ↦ rw (depth-root p N v (omega arith) (sym z)) (omega arith)
@@ -113,16 +112,16 @@ module _ (N d : ℕ) (ls : List Link) (p : List ℕ) (e : isPlan N d ls p ≡ tr
           ]
 
   -- no depth bit above D + 1
-  pub depths-in : (v : ℕ) → v < N → getD (depthChoices N p) v 0 ≤ N / 2 + 1
-  unfolding depthChoices deepest
-  depths-in v h = rw (each-at N (λ u. bitOfDepth (depthOf p N u)) v h) (depth-bit-in (deepest N) (depthOf p N (suc v)) (depth-in (suc v) (omega arith) h) .0)
+  pub depths-in : (v : ℕ) → v < N → getD (depthChoices N p) v 0 ≤ suc D
+  unfolding depthChoices
+  depths-in v h = rw (each-at N (λ u. bitOfDepth (depthOf p N u)) v h) (depth-bit-in D (depthOf p N (suc v)) (depth-in (suc v) (omega arith) h) .0)
 
   -- no arc bit above D, for any links
-  pub arcs-in : (qs : List Link) (k : ℕ) → getD (arcChoices N qs p) k 0 ≤ N / 2
-  unfolding arcChoices arcChoice deepest
-  arcs-in qs k = map-in (arcChoice N p) (N / 2) (λ a. one (eqb (nth p (a .child)) (a .parent)) (a .child)) (arcs qs) k
+  pub arcs-in : (qs : List Link) (k : ℕ) → getD (arcChoices N qs p) k 0 ≤ D
+  unfolding arcChoices arcChoice
+  arcs-in qs k = map-in (arcChoice N p) D (λ a. one (eqb (nth p (a .child)) (a .parent)) (a .child)) (arcs qs) k
     where
-      one : (t : Bool) (v : ℕ) → cond t (arcDepth (depthOf p N v)) 0 ≤ N / 2
+      one : (t : Bool) (v : ℕ) → cond t (arcDepth (depthOf p N v)) 0 ≤ D
       one true v = arcDepth-in v
       one false v = omega arith
 
@@ -135,53 +134,51 @@ module _ (N d : ℕ) (ls : List Link) (p : List ℕ) (e : isPlan N d ls p ≡ tr
 
 -- ---- the bits of a code
 
--- the depths have few bits
-pub first-small : (N : ℕ) → N ≤ 48 → N * (N / 2 + 1) ≤ 1200
-first-small N h = depths-few N (N / 2) h (omega arith)
+module _ (N D d M l : ℕ) (is : D ≡ deepest N) (bits : l ≡ bitCount N M d) where
+  bits-are : l ≡ arcsEnd N D M + N * d
+  bits-are = rw is bits
 
--- so have the arcs
-pub second-small : (N M : ℕ) → N ≤ 48 → M ≤ 256 → 2 * M * (N / 2) ≤ 12288
-second-small N M h l = arcs-few M (N / 2) l (omega arith)
+  -- there is room for the first two parts, and for the last, with as many meters as the plan is long
+  pub bits-first : depthsEnd N D ≤ l
+  bits-first = omega (arith, bits-are)
 
--- as the code counts them
-pub bits-are : (N M d l : ℕ) → l ≡ bitCount N M d → l ≡ N * (N / 2 + 1) + 2 * M * (N / 2) + N * d
-unfolding deepest
-bits-are N M d l e = rw add-one e
+  pub bits-second : arcsEnd N D M ≤ l
+  bits-second = omega (arith, bits-are)
 
--- the last part, with as many meters as the plan is long
-pub bits-end : (N M d l q : ℕ) → l ≡ bitCount N M d → q ≡ N → N * (N / 2 + 1) + 2 * M * (N / 2) + q * d ≤ l
-bits-end N M d l q e s = rw s (omega (arith, bits-are N M d l e))
+  pub bits-third : (k : ℕ) → k ≡ N → arcsEnd N D M + k * d ≤ l
+  bits-third k e = rw e (omega (arith, bits-are))
 
-module _ (N d M : ℕ) (ls : List Link) (p : List ℕ) (count : length ls ≡ M) (size : length p ≡ N) where
+module _ (N D d M : ℕ) (ls : List Link) (p : List ℕ) (is : D ≡ deepest N) (count : length ls ≡ M) (size : length p ≡ N) where
   -- the three parts in their places are the code
   pub code-whole : (x₀ x₁ x₂ x₃ : List ℕ) → length x₀ ≡ bitCount N M d
-      → x₁ ≡ placed 0 (code (N / 2 + 1) (depthChoices N p)) x₀
-      → x₂ ≡ placed (N * (N / 2 + 1)) (code (N / 2) (arcChoices N ls p)) x₁
-      → x₃ ≡ placed (N * (N / 2 + 1) + 2 * M * (N / 2)) (code d (countChoices (length p) p)) x₂
+      → x₁ ≡ placed 0 (code (suc D) (depthChoices N p)) x₀
+      → x₂ ≡ placed (depthsEnd N D) (code D (arcChoices N ls p)) x₁
+      → x₃ ≡ placed (arcsEnd N D M) (code d (countChoices (length p) p)) x₂
       → x₃ ≡ codeOf N d ls p
-  unfolding codeOf deepest
-  code-whole x₀ x₁ x₂ x₃ e e₁ e₂ e₃ = rw (e₃, e₂, e₁, all, add-one (N / 2), size) refl
+  unfolding codeOf
+  code-whole x₀ x₁ x₂ x₃ e e₁ e₂ e₃ = rw (e₃, e₂, e₁, all, is, size) refl
     where
-      a : length (code (N / 2 + 1) (depthChoices N p)) ≡ N * (N / 2 + 1)
-      a = code-length (N / 2 + 1) (depthChoices N p) ∙ ap (λ t. t * (N / 2 + 1)) (depths-length N p)
+      a : length (code (suc D) (depthChoices N p)) ≡ depthsEnd N D
+      a = code-length (suc D) (depthChoices N p) ∙ ap (λ t. t * suc D) (depths-length N p)
 
-      b : length (code (N / 2) (arcChoices N ls p)) ≡ 2 * M * (N / 2)
-      b = code-length (N / 2) (arcChoices N ls p) ∙ ap (λ t. t * (N / 2)) (arcChoices-length N ls p ∙ ap (λ t. 2 * t) count)
+      b : length (code D (arcChoices N ls p)) ≡ 2 * M * D
+      b = code-length D (arcChoices N ls p) ∙ ap (λ t. t * D) (arcChoices-length N ls p ∙ ap (λ t. 2 * t) count)
 
       g : length (code d (countChoices (length p) p)) ≡ N * d
       g = code-length d (countChoices (length p) p) ∙ ap (λ t. t * d) (counts-length (length p) p ∙ size)
 
-      all : placed (N * (N / 2 + 1) + 2 * M * (N / 2)) (code d (countChoices (length p) p)) (placed (N * (N / 2 + 1)) (code (N / 2) (arcChoices N ls p)) (placed 0 (code (N / 2 + 1) (depthChoices N p)) x₀)) ≡ code (N / 2 + 1) (depthChoices N p) ++ code (N / 2) (arcChoices N ls p) ++ code d (countChoices (length p) p)
-      all = placed-all (code (N / 2 + 1) (depthChoices N p)) (code (N / 2) (arcChoices N ls p)) (code d (countChoices (length p) p)) x₀ (N * (N / 2 + 1)) (N * (N / 2 + 1) + 2 * M * (N / 2)) (sym a) (omega (arith, a, b)) (omega (arith, a, b, g, bits-are N M d (length x₀) e))
+      all : placed (arcsEnd N D M) (code d (countChoices (length p) p)) (placed (depthsEnd N D) (code D (arcChoices N ls p)) (placed 0 (code (suc D) (depthChoices N p)) x₀)) ≡ code (suc D) (depthChoices N p) ++ code D (arcChoices N ls p) ++ code d (countChoices (length p) p)
+      all = placed-all (code (suc D) (depthChoices N p)) (code D (arcChoices N ls p)) (code d (countChoices (length p) p)) x₀ (depthsEnd N D) (arcsEnd N D M) (sym a) (omega (arith, a, b)) (omega (arith, a, b, g, bits-are N D d M (length x₀) is e))
 
 -- ---- encode_plan
 
--- t is what the test of a plan said
-module _ (N d : ℕ) (ls : List Link) (p : List ℕ) (t : Bool) (is : t ≡ isPlan N d ls p) where
+-- t is what the test of a plan said, whatever the weights are
+module _ (N d : ℕ) (us vs p : List ℕ) (t : Bool) (is : (ws : List ℕ) → t ≡ isPlan N d (linksOf us vs ws) p) where
   -- no plan: the bits are as they were
-  pub coded-none : t ≡ false → (bits : List ℕ) → (false ≡ isPlan N d ls p) × (bits ≡ cond (isPlan N d ls p) (codeOf N d ls p) bits)
-  coded-none n bits = let e : isPlan N d ls p ≡ false = sym is ∙ n in rw e (refl, refl)
+  pub coded-none : t ≡ false → (bits : List ℕ) → ((ws : List ℕ) → false ≡ isPlan N d (linksOf us vs ws) p) × ((ws : List ℕ) → bits ≡ cond (isPlan N d (linksOf us vs ws) p) (codeOf N d (linksOf us vs ws) p) bits)
+  coded-none n bits = (λ ws. sym n ∙ is ws, λ ws. let e : isPlan N d (linksOf us vs ws) p ≡ false = sym (is ws) ∙ n in rw e refl)
 
   -- a plan: they are its code
-  pub coded-plan : t ≡ true → (bits x : List ℕ) → x ≡ codeOf N d ls p → (true ≡ isPlan N d ls p) × (x ≡ cond (isPlan N d ls p) (codeOf N d ls p) bits)
-  coded-plan y bits x h = let e : isPlan N d ls p ≡ true = sym is ∙ y in rw e (refl, h)
+  pub coded-plan : t ≡ true → (bits x : List ℕ) → ((ws : List ℕ) → x ≡ codeOf N d (linksOf us vs ws) p)
+      → ((ws : List ℕ) → true ≡ isPlan N d (linksOf us vs ws) p) × ((ws : List ℕ) → x ≡ cond (isPlan N d (linksOf us vs ws) p) (codeOf N d (linksOf us vs ws) p) bits)
+  coded-plan y bits x h = (λ ws. sym y ∙ is ws, λ ws. let e : isPlan N d (linksOf us vs ws) p ≡ true = sym (is ws) ∙ y in rw e (h ws))

@@ -10,12 +10,12 @@ use borrow.Author.Tests.{leb-true, le-leb, eq-eqb}
 use Rattle.lists.proofs.Tests.{and-left, and-right, and-both, all-from, from-all}
 use Rattle.links.specs.Links.{Link, isAt, degree, total}
 use Rattle.links.specs.Survey.{Survey}
+use Rattle.qubo.specs.Best.{LeastPlan}
 use Rattle.spanning.specs.Parents.{deepest, isRooted, neighbours, treeLinks}
 use Rattle.spanning.specs.Spanning.{along, back, Linked, here, there, Reach, stay, go, Spanning, WithinLimit, BestTree}
 use Rattle.spanning.proofs.Shape.{Shape, shape-of}
 use Rattle.spanning.proofs.Trees.{rooted-spanning, rooted-degree, shallow-root}
 use Rattle.tree.specs.Plans.{fewNeighbours, isPlan, treeWeight}
-use Rattle.tree.specs.Best.{LeastPlan}
 
 module _ (N d : ℕ) (ls : List Link) (p : List ℕ) where
   -- a plan is a rooted tree
@@ -80,13 +80,13 @@ module _ (N d : ℕ) (ls : List Link) (s : Survey N ls) where
       (r .0, plan-test N d ls (r .0) (r .1) few, r .2, ap total (r .2))
 
   -- a plan is one of least weight exactly where its links are a best tree
-  pub least-best : (p : List ℕ) → LeastPlan N d ls p → BestTree N d ls (treeLinks p ls)
+  pub least-best : (p : List ℕ) → LeastPlan (isPlan N d ls) (treeWeight ls) p → BestTree N d ls (treeLinks p ls)
   least-best p b =
       let t = plan-spanning p (b .ok) in
       record { spanning = t .0; within = t .1; least = λ S u w. let q = spanning-plan S u w in omega (arith, t .2, b .least (q .0) (q .1), q .3) }
 
   -- and the other way
-  pub best-least : (p : List ℕ) → isPlan N d ls p ≡ true → BestTree N d ls (treeLinks p ls) → LeastPlan N d ls p
+  pub best-least : (p : List ℕ) → isPlan N d ls p ≡ true → BestTree N d ls (treeLinks p ls) → LeastPlan (isPlan N d ls) (treeWeight ls) p
   best-least p e b = record {
     ok = e;
     least = λ q f. let t = plan-spanning q f in omega (arith, plan-spanning p e .2, t .2, b .least (treeLinks q ls) (t .0) (t .1));

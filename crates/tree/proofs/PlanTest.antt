@@ -1,10 +1,10 @@
 -- Laws that the proofs of src/plans.rt cite: each test of a plan, and all of them together. Assumes nothing.
-use Prim.Native.Nat.{ℕ, suc, _+_, _-_, _/_, _≤_, _<_}
-use mathlib.Core.Path.{_≡_, refl, sym, ap, ap₂, _∙_}
-use mathlib.Core.Bool.{Bool, true, false, _&&_}
-use mathlib.Core.List.{List}
+use Prim.Native.Nat.{ℕ, suc, _+_, _-_, _≤_, _<_}
+use mathlib.Core.Path.{_≡_, refl, sym, ap, ap₂, _∙_, fun-ext}
+use mathlib.Core.Bool.{Bool, true, false, _&&_, _||_}
+use mathlib.Core.List.{List, [], _∷_}
 use lib.ListN.{length, getD}
-use lib.Dec.{leb}
+use lib.Dec.{eqb, leb}
 use native.Mathlib.Omega.{arith}
 use native.Mathlib.Numerals.{add-one}
 use native.Mathlib.Decide.{ℕ-discrete}
@@ -14,15 +14,16 @@ use Rattle.lists.specs.Sums.{sumTo, sumOf, same, nth}
 use Rattle.lists.proofs.Tests.{and-true, from-all, from-not}
 use Rattle.lists.proofs.Sums.{same-yes, same-no, same-one, differ-yes, differ-no}
 use Rattle.links.specs.Links.{Link, total, linkIn, linksOf}
-use Rattle.links.specs.Survey.{Survey, Arrays}
-use Rattle.links.proofs.Walk.{link-at, Summed, summed-turn, summed-end}
+use Rattle.links.specs.Survey.{Survey, Ends}
+use Rattle.links.proofs.Arrays.{present-any}
+use Rattle.links.proofs.Walk.{Summed, summed-turn, summed-end}
 use Rattle.onehot.proofs.Counts.{count-le}
-use Rattle.spanning.specs.Parents.{deepest, depthOf, atMost, parentLinked, rootsOf, isRooted, neighbours, isUsed}
+use Rattle.spanning.specs.Parents.{deepest, depthOf, atMost, linked, parentLinked, rootsOf, isRooted, neighbours, isUsed}
 use Rattle.spanning.specs.declared.Depth.{Depth}
 use Rattle.spanning.specs.declared.Depth.the-variants.{At, Ring}
 use Rattle.spanning.proofs.Counting.{used-sum}
 use Rattle.tree.specs.Plans.{bitOfDepth, depthChoices, fewNeighbours, isPlan, treeWeight}
-use Rattle.tree.specs.Stores.{Counted, Ends, usedWeight}
+use Rattle.tree.specs.Inner.{Counted, usedWeight}
 use Rattle.tree.proofs.Filling.{lent-next, lent-at}
 use Rattle.tree.proofs.ParentLinks.{joining, all-linked}
 
@@ -32,9 +33,9 @@ use Rattle.tree.proofs.ParentLinks.{joining, all-linked}
 abbrev pub Joined : List ℕ → List ℕ → List ℕ → ℕ → ℕ → Type 0
 Joined p us vs k count = (ws : List ℕ) → Summed us vs ws (joining p) k count
 
--- the ends of a site's links are meters of a plan as long as there are meters
-pub ends-plan : (N : ℕ) (us vs ws : List ℕ) → Arrays N us vs ws → (p : List ℕ) → length p ≡ N → Ends (length p) us vs
-ends-plan N us vs ws a p e k h = let f = link-at N us vs ws a k h in (f .0, f .1, omega (arith, f))
+-- with as many meters as a plan is long
+pub ends-plan : (N : ℕ) (us vs : List ℕ) → Ends N us vs → (k : ℕ) → k ≡ N → Ends k us vs
+ends-plan N us vs a k e = rw e a
 
 module _ (p us vs : List ℕ) (k count : ℕ) (s : Joined p us vs k count) where
   -- a turn counts the link at k
@@ -82,13 +83,13 @@ pub bit-ring : (o : Depth) → o ≡ Ring → 0 ≡ bitOfDepth o
 bit-ring o e = sym (ap bitOfDepth e)
 
 -- a depth is at most D where its bit is one of 1..D+1
-depth-yes : (D : ℕ) (o : Depth) → (bitOfDepth o ≡ 0 → ⊥) → bitOfDepth o ≤ D + 1 → atMost D o ≡ true
+depth-yes : (D : ℕ) (o : Depth) → (bitOfDepth o ≡ 0 → ⊥) → bitOfDepth o ≤ suc D → atMost D o ≡ true
 unfolding atMost
 depth-yes D (At h) n l = le-leb h D (omega arith)
 depth-yes D Ring n l = absurd (n refl)
 
 -- and above D where it is a later one
-depth-no : (D : ℕ) (o : Depth) → (bitOfDepth o ≡ 0 → ⊥) → D + 1 < bitOfDepth o → atMost D o ≡ false
+depth-no : (D : ℕ) (o : Depth) → (bitOfDepth o ≡ 0 → ⊥) → suc D < bitOfDepth o → atMost D o ≡ false
 unfolding atMost
 depth-no D (At h) n l = lt-leb h D (omega arith)
 depth-no D Ring n l = absurd (n refl)
@@ -101,28 +102,26 @@ depth-none D Ring e = refl
 
 -- entry k of the bits l of all depths is one of 1..D+1
 abbrev pub DepthIn : List ℕ → ℕ → ℕ → Type 0
-DepthIn l N k = (getD l k 0 ≡ 0 → ⊥) × (getD l k 0 ≤ N / 2 + 1)
+DepthIn l D k = (getD l k 0 ≡ 0 → ⊥) × (getD l k 0 ≤ suc D)
 
-module _ (N : ℕ) (p l : List ℕ) (e : l ≡ depthChoices N p) where
+module _ (N D : ℕ) (p l : List ℕ) (e : l ≡ depthChoices N p) where
   -- a meter in a ring fails the test
-  pub depths-ring : (k : ℕ) → k < N → getD l k 0 ≡ 0 → false ≡ all (λ v. atMost (deepest N) (depthOf p N v)) (from 1 N)
-  depths-ring k h z = sym (from-not (λ v. atMost (deepest N) (depthOf p N v)) 1 N (suc k) (omega arith) (omega arith) (depth-none (deepest N) (depthOf p N (suc k)) (sym (lent-next N p l e k h) ∙ z)))
+  pub depths-ring : (k : ℕ) → k < N → getD l k 0 ≡ 0 → false ≡ all (λ v. atMost D (depthOf p N v)) (from 1 N)
+  depths-ring k h z = sym (from-not (λ v. atMost D (depthOf p N v)) 1 N (suc k) (omega arith) (omega arith) (depth-none D (depthOf p N (suc k)) (sym (lent-next N p l e k h) ∙ z)))
 
   -- so does one that is too deep
-  pub depths-over : (k : ℕ) → k < N → (getD l k 0 ≡ 0 → ⊥) → N / 2 + 1 < getD l k 0 → false ≡ all (λ v. atMost (deepest N) (depthOf p N v)) (from 1 N)
-  unfolding deepest
+  pub depths-over : (k : ℕ) → k < N → (getD l k 0 ≡ 0 → ⊥) → suc D < getD l k 0 → false ≡ all (λ v. atMost D (depthOf p N v)) (from 1 N)
   depths-over k h n g =
       let b = lent-next N p l e k h in
-      sym (from-not (λ v. atMost (deepest N) (depthOf p N v)) 1 N (suc k) (omega arith) (omega arith) (depth-no (deepest N) (depthOf p N (suc k)) (λ z. n (b ∙ z)) (omega (arith, b))))
+      sym (from-not (λ v. atMost D (depthOf p N v)) 1 N (suc k) (omega arith) (omega arith) (depth-no D (depthOf p N (suc k)) (λ z. n (b ∙ z)) (omega (arith, b))))
 
   -- with no such meter it holds
-  pub depths-yes : (k : ℕ) → k ≡ N → ((i : ℕ) → i < k → DepthIn l N i) → true ≡ all (λ v. atMost (deepest N) (depthOf p N v)) (from 1 N)
-  unfolding deepest
+  pub depths-yes : (k : ℕ) → k ≡ N → ((i : ℕ) → i < k → DepthIn l D i) → true ≡ all (λ v. atMost D (depthOf p N v)) (from 1 N)
   depths-yes k m h =
-      sym (from-all (λ v. atMost (deepest N) (depthOf p N v)) 1 N (λ v a g.
+      sym (from-all (λ v. atMost D (depthOf p N v)) 1 N (λ v a g.
       let b = lent-at N p l e v a (omega arith) in
       let i = h (v - 1) (omega arith) in
-      depth-yes (deepest N) (depthOf p N v) (λ z. i .0 (b ∙ z)) (omega (arith, b, i .1))))
+      depth-yes D (depthOf p N v) (λ z. i .0 (b ∙ z)) (omega (arith, b, i .1))))
 
 -- ---- neighbours_at and within_limit
 
@@ -175,6 +174,14 @@ module _ (N : ℕ) (p : List ℕ) (roots : ℕ) (size : length p ≡ N) (are : r
 
   pub roots-other : (roots ≡ 1 → ⊥) → rootsOf N p ≡ 1 → ⊥
   roots-other n e = n (sym roots-are ∙ e)
+
+-- the weights of the links have no part in it: what the test says with some it says with any
+pub plan-any : (N d : ℕ) (us vs ws p : List ℕ) (r : Bool) → r ≡ isPlan N d (linksOf us vs ws) p → (xs : List ℕ) → r ≡ isPlan N d (linksOf us vs xs) p
+unfolding isPlan isRooted parentLinked linked
+plan-any N d us vs ws p r e xs =
+    e
+    ∙ ap (λ (f : ℕ → ℕ → Bool). every (eqb (length p) N ∷ eqb (rootsOf N p) 1 ∷ all (λ v. eqb (nth p v) 0 || (f v (nth p v) || f (nth p v) v)) (from 1 N) ∷ all (λ v. atMost (deepest N) (depthOf p N v)) (from 1 N) ∷ []) && fewNeighbours N d p)
+    (fun-ext (λ a. fun-ext (λ b. present-any a b us vs ws xs)))
 
 module _ (N d : ℕ) (ls : List Link) (p : List ℕ) where
   -- not as many parents as meters

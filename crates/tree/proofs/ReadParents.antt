@@ -1,29 +1,29 @@
 -- The parents read off the arcs of an assignment, arc by arc: at each meter what is read so far and what is left make up the whole. Assumes nothing.
 use Prim.Native.Nat.{ℕ, zero, suc, pred, _+_, _-_, _*_, _≤_, _<_}
-use mathlib.Core.Path.{_≡_, refl, sym, ap, _∙_}
+use mathlib.Core.Path.{_≡_, refl, sym, ap, _∙_, fun-ext}
 use mathlib.Core.List.{List, [], _∷_, List·Memᴰ, List·Memᴰ·head, List·Memᴰ·tail}
 use lib.ListN.{length, getD, set, length-set, List·getD-eq-default}
 use lib.Seq.{ext-getD}
 use native.Mathlib.Omega.{arith}
 use native.Mathlib.Decide.{ℕ-discrete, decLt}
-use native.Mathlib.Numerals.{add-one}
 use native.Mathlib.Nat.{mul-le-mul, mul-le-mul-left, mul-le-mul-right, add-le-add, add-mul, suc-mul, zero-mul, one-mul}
 use Rattle.lists.specs.Sums.{sumTo, sumOf, same, nth}
 use Rattle.lists.proofs.Sums.{same-yes, same-no, sumOf-times, nth-index, nth-suc}
 use Rattle.lists.proofs.Stores.{added-here, added-elsewhere, added-same}
 use Rattle.links.specs.Links.{linksOf}
-use Rattle.links.specs.Survey.{Arrays}
-use Rattle.links.proofs.Walk.{arrays-few}
+use Rattle.links.specs.Survey.{Survey}
 use Rattle.qubo.specs.Formula.{Bits}
+use Rattle.qubo.specs.Terms.{each}
 use Rattle.onehot.proofs.Codes.{each-length, each-at}
 use Rattle.onehot.proofs.Parts.{one-less}
-use Rattle.arcs.specs.Arcs.{Arc, arcs, arcsEnd, arcAt}
+use Rattle.arcs.specs.Arcs.{Arc, arcs, arcAt}
 use Rattle.arcs.proofs.ArcLists.{ArcOf, arc-of, arcUp, arcBack, arcsLeft, arcs-start, arcs-turn, arcs-end, up-among, back-among}
-use Rattle.arcs.specs.Walks.{linkSet, Used}
-use Rattle.arcs.proofs.Slices.{slice, slice-sum, depths-few, arcs-few}
+use Rattle.arcs.specs.Inner.{linkSet}
+use Rattle.arcs.proofs.Slices.{slice, slice-sum}
+use Rattle.arcs.proofs.ArcWalk.{sum-by-ends}
 use Rattle.arcs.proofs.LinkBits.{set-parts}
 use Rattle.tree.specs.Decoding.{parentRead, candidateTo}
-use Rattle.tree.specs.Stores.{setFrom, added}
+use Rattle.tree.specs.Inner.{setFrom, added, Readable}
 
 -- ---- read_arc: the bits of an arc
 
@@ -88,18 +88,6 @@ read-small q r e h = rw e h
 
 -- ---- read_parents
 
--- what is lent: at most one arc is set into each meter
-pub record Readable (N D : ℕ) (us vs ws x : List ℕ) : Type 0 where
-  pub arrays : Arrays N us vs ws
-  pub deep : D ≤ 24
-  pub bits : Bits x
-  pub room : arcsEnd N D (length us) ≤ length x
-  pub once : (v : ℕ) → 1 ≤ v → v ≤ N → sumOf (arcs (linksOf us vs ws)) (λ a. same (a .child) v * sumTo D (arcAt N D x a)) ≤ 1
-
--- what read_parents is lent, as facts
-pub readable : (N D : ℕ) (us vs ws x used : List ℕ) (n : ℕ) → Arrays N us vs ws × (D ≤ 24) × Bits x × (arcsEnd N D (length us) ≤ length x) × (n ≡ N) × ((v : ℕ) → 1 ≤ v → v ≤ N → sumOf (arcs (linksOf us vs ws)) (λ a. same (a .child) v * sumTo D (arcAt N D x a)) ≤ 1) × Used N D (length us) x used → Readable N D us vs ws x
-readable N D us vs ws x used n t = record { arrays = t .0; deep = t .1; bits = t .2; room = t .3; once = t .5 }
-
 -- what arc a gives at meter v
 pub gives : ℕ → ℕ → List ℕ → ℕ → Arc → ℕ
 gives N D x v a = same (a .child) v * sumTo D (arcAt N D x a) * a .parent
@@ -127,14 +115,21 @@ unfolding sumOf
 sums-le [] f g h = omega arith
 sums-le (a ∷ ks) f g h = add-le-add (h a (List·Memᴰ·head refl)) (sums-le ks f g (λ b m. h b (List·Memᴰ·tail m)))
 
-module _ (N D : ℕ) (us vs ws x : List ℕ) (r : Readable N D us vs ws x) where
+module _ (N D : ℕ) (us vs x : List ℕ) (r : Readable N D us vs x) where
+  -- the weights that there are
+  abbrev ws : List ℕ
+  ws = r .ends .weights
+
+  survey : Survey N (linksOf us vs ws)
+  survey = r .ends .arrays .survey
+
   -- no more than one parent is read at a meter
   read-few : (v : ℕ) → 1 ≤ v → v ≤ N → sumOf (arcs (linksOf us vs ws)) (gives N D x v) ≤ 48
   unfolding gives
   read-few v l h =
       omega (
         arith,
-        sums-le (arcs (linksOf us vs ws)) (gives N D x v) (λ a. 48 * (same (a .child) v * sumTo D (arcAt N D x a))) (λ a m. le (same (a .child) v * sumTo D (arcAt N D x a)) (a .parent) (omega (arith, arc-of N (linksOf us vs ws) (r .arrays .survey) a m .parent-high, r .arrays .survey .meters-high))),
+        sums-le (arcs (linksOf us vs ws)) (gives N D x v) (λ a. 48 * (same (a .child) v * sumTo D (arcAt N D x a))) (λ a m. le (same (a .child) v * sumTo D (arcAt N D x a)) (a .parent) (omega (arith, arc-of N (linksOf us vs ws) (survey) a m .parent-high, survey .meters-high))),
         sumOf-times (arcs (linksOf us vs ws)) 48 (λ a. same (a .child) v * sumTo D (arcAt N D x a)),
         r .once v l h,
       )
@@ -142,16 +137,12 @@ module _ (N D : ℕ) (us vs ws x : List ℕ) (r : Readable N D us vs ws x) where
       le : (m u : ℕ) → u ≤ 48 → m * u ≤ 48 * m
       le m u b = omega (arith, mul-le-mul-left m b)
 
-  -- where the bits of arcs start
-  pub places-small : (N * (D + 1) ≤ 1200) × ((k : ℕ) → k < length us → 2 * k * D ≤ 12288)
-  places-small = (depths-few N D (r .arrays .survey .meters-high) (r .deep), λ k h. arcs-few k D (omega (arith, arrays-few N us vs ws (r .arrays))) (r .deep))
-
   -- at first nothing is read
-  pub read-start : (p : List ℕ) → length p ≡ N → ((k : ℕ) → getD p k 0 ≡ 0) → ReadTo N D us vs ws x (arcsLeft us vs ws 0) p
+  pub read-start : (p : List ℕ) → length p ≡ N → ((k : ℕ) → getD p k 0 ≡ 0) → ReadTo N D us vs (r .ends .weights) x (arcsLeft us vs (r .ends .weights) 0) p
   read-start p s z = record { size = s; among = λ f. rw (arcs-start us vs ws) (omega arith); whole = λ v l h. rw (nth-index p v l, z (v - 1), arcs-start us vs ws) (omega arith) }
 
   -- no entry is above 48
-  pub entries-small : (left : List Arc) (p : List ℕ) → ReadTo N D us vs ws x left p → (k : ℕ) → getD p k 0 ≤ 48
+  pub entries-small : (left : List Arc) (p : List ℕ) → ReadTo N D us vs (r .ends .weights) x left p → (k : ℕ) → getD p k 0 ≤ 48
   entries-small left p i k =
       elim (decLt k N) [
         | yes h ↦ omega (arith, nth-suc p k, i .whole (suc k) (omega arith) h, read-few (suc k) (omega arith) h)
@@ -197,9 +188,9 @@ module _ (N D : ℕ) (us vs ws x : List ℕ) (r : Readable N D us vs ws x) where
             ]
 
   -- in the end the parents are read
-  pub read-end : (k : ℕ) (p : List ℕ) → length us ≤ k → ReadTo N D us vs ws x (arcsLeft us vs ws k) p → p ≡ candidateTo D N (linksOf us vs ws) x
+  read-whole : (k : ℕ) (p : List ℕ) → length us ≤ k → ReadTo N D us vs ws x (arcsLeft us vs ws k) p → p ≡ candidateTo D N (linksOf us vs ws) x
   unfolding candidateTo parentRead gives sumOf
-  read-end k p h i = ext-getD 0 p (candidateTo D N (linksOf us vs ws) x) (i .size ∙ sym (each-length N _)) entry
+  read-whole k p h i = ext-getD 0 p (candidateTo D N (linksOf us vs ws) x) (i .size ∙ sym (each-length N _)) entry
     where
       left : (v : ℕ) → sumOf (arcsLeft us vs ws k) (gives N D x v) ≡ 0
       left v = ap (λ (l : List Arc). sumOf l (gives N D x v)) (arcs-end us vs ws k h)
@@ -207,25 +198,30 @@ module _ (N D : ℕ) (us vs ws x : List ℕ) (r : Readable N D us vs ws x) where
       entry : (j : ℕ) → j < length p → getD p j 0 ≡ getD (candidateTo D N (linksOf us vs ws) x) j 0
       entry j b = sym (each-at N (parentRead D (arcs (linksOf us vs ws)) (arcAt N D x)) j (omega (arith, i .size)) ∙ sym (i .whole (suc j) (omega arith) (omega (arith, i .size))) ∙ omega (arith, left (suc j), nth-suc p j))
 
+  -- the weights have no part in them
+  pub read-end : (k : ℕ) (p : List ℕ) → length us ≤ k → ReadTo N D us vs (r .ends .weights) x (arcsLeft us vs (r .ends .weights) k) p → (xs : List ℕ) → p ≡ candidateTo D N (linksOf us vs xs) x
+  unfolding candidateTo parentRead arcAt
+  read-end k p h i xs = read-whole k p h i ∙ ap (each N) (fun-ext (λ v. sum-by-ends (λ n u c. same c v * sumTo D (λ t. getD x (N * suc D + n * D + pred t) 0) * u) us vs ws xs))
+
   -- the two arcs of link k: u to v, then v to u
   module _ (k : ℕ) (h : k < length us) where
     up-of : ArcOf N (arcUp us vs ws k)
-    up-of = arc-of N (linksOf us vs ws) (r .arrays .survey) (arcUp us vs ws k) (up-among us vs ws k (2 * k) h refl)
+    up-of = arc-of N (linksOf us vs ws) (survey) (arcUp us vs ws k) (up-among us vs ws k (2 * k) h refl)
 
     back-of : ArcOf N (arcBack us vs ws k)
-    back-of = arc-of N (linksOf us vs ws) (r .arrays .survey) (arcBack us vs ws k) (back-among us vs ws k (2 * k + 1) h refl)
+    back-of = arc-of N (linksOf us vs ws) (survey) (arcBack us vs ws k) (back-among us vs ws k (2 * k + 1) h refl)
 
     -- where their bits start
-    first-at : N * (D + 1) + 2 * k * D ≡ N * suc D + arcUp us vs ws k .number * D
-    first-at = rw (add-one D) refl
+    first-at : N * suc D + 2 * k * D ≡ N * suc D + arcUp us vs ws k .number * D
+    first-at = refl
 
-    second-at : N * (D + 1) + 2 * k * D + D ≡ N * suc D + arcBack us vs ws k .number * D
-    second-at = rw (add-one D) (omega (arith, add-mul (2 * k) 1 D))
+    second-at : N * suc D + 2 * k * D + D ≡ N * suc D + arcBack us vs ws k .number * D
+    second-at = omega (arith, add-mul (2 * k) 1 D)
 
     -- how many of them are set
-    pub link-count : (n : ℕ) → n ≡ linkSet N D x k → n ≡ setFrom x (N * (D + 1) + 2 * k * D) D + setFrom x (N * (D + 1) + 2 * k * D + D) D
+    pub link-count : (n : ℕ) → n ≡ linkSet N D x k → n ≡ setFrom x (N * suc D + 2 * k * D) D + setFrom x (N * suc D + 2 * k * D + D) D
     unfolding setFrom
-    link-count n e = e ∙ set-parts N D x k ∙ rw (second-at, first-at) refl
+    link-count n e = e ∙ set-parts N D x k ∙ rw second-at refl
 
     module _ (p : List ℕ) (i : ReadTo N D us vs ws x (arcsLeft us vs ws k) p) where
       both-left : ReadTo N D us vs ws x (arcUp us vs ws k ∷ arcBack us vs ws k ∷ arcsLeft us vs ws (k + 1)) p
@@ -233,24 +229,24 @@ module _ (N D : ℕ) (us vs ws x : List ℕ) (r : Readable N D us vs ws x) where
 
       -- the first read, the second is left
       firstRead : List ℕ
-      firstRead = added (getD vs k 0) (setFrom x (N * (D + 1) + 2 * k * D) D * getD us k 0) p
+      firstRead = added (getD vs k 0) (setFrom x (N * suc D + 2 * k * D) D * getD us k 0) p
 
       second-left : ReadTo N D us vs ws x (arcBack us vs ws k ∷ arcsLeft us vs ws (k + 1)) firstRead
       unfolding firstRead
-      second-left = arc-turn (arcUp us vs ws k) _ p both-left up-of (N * (D + 1) + 2 * k * D) first-at firstRead refl
+      second-left = arc-turn (arcUp us vs ws k) _ p both-left up-of (N * suc D + 2 * k * D) first-at firstRead refl
 
       -- what read_link asks of the bits and of the plan
-      pub link-asks : Bits x × (D ≤ 24) × (N * (D + 1) + 2 * k * D + D + D ≤ length x) × (setFrom x (N * (D + 1) + 2 * k * D) D ≤ 1) × (setFrom x (N * (D + 1) + 2 * k * D + D) D ≤ 1)
+      pub link-asks : Bits x × (D ≤ 24) × (N * suc D + 2 * k * D + D + D ≤ length x) × (setFrom x (N * suc D + 2 * k * D) D ≤ 1) × (setFrom x (N * suc D + 2 * k * D + D) D ≤ 1)
       link-asks =
-          let a = arc-asks (arcUp us vs ws k) _ p both-left up-of (N * (D + 1) + 2 * k * D) first-at (omega arith) in
-          let b = arc-asks (arcBack us vs ws k) _ firstRead second-left back-of (N * (D + 1) + 2 * k * D + D) second-at (omega arith) in
+          let a = arc-asks (arcUp us vs ws k) _ p both-left up-of (N * suc D + 2 * k * D) first-at (omega arith) in
+          let b = arc-asks (arcBack us vs ws k) _ firstRead second-left back-of (N * suc D + 2 * k * D + D) second-at (omega arith) in
           (r .bits, r .deep, b .2, a .3, b .3)
 
-      pub link-small : (j : ℕ) → getD (added (getD vs k 0) (setFrom x (N * (D + 1) + 2 * k * D) D * getD us k 0) p) j 0 ≤ 48
+      pub link-small : (j : ℕ) → getD (added (getD vs k 0) (setFrom x (N * suc D + 2 * k * D) D * getD us k 0) p) j 0 ≤ 48
       unfolding firstRead
       link-small = entries-small _ firstRead second-left
 
       -- reading both leaves those of the links behind k
-      pub link-turn : (q : List ℕ) → q ≡ added (getD us k 0) (setFrom x (N * (D + 1) + 2 * k * D + D) D * getD vs k 0) (added (getD vs k 0) (setFrom x (N * (D + 1) + 2 * k * D) D * getD us k 0) p) → ReadTo N D us vs ws x (arcsLeft us vs ws (k + 1)) q
+      pub link-turn : (q : List ℕ) → q ≡ added (getD us k 0) (setFrom x (N * suc D + 2 * k * D + D) D * getD vs k 0) (added (getD vs k 0) (setFrom x (N * suc D + 2 * k * D) D * getD us k 0) p) → ReadTo N D us vs (r .ends .weights) x (arcsLeft us vs (r .ends .weights) (k + 1)) q
       unfolding firstRead
-      link-turn = arc-turn (arcBack us vs ws k) _ firstRead second-left back-of (N * (D + 1) + 2 * k * D + D) second-at
+      link-turn = arc-turn (arcBack us vs ws k) _ firstRead second-left back-of (N * suc D + 2 * k * D + D) second-at

@@ -1,5 +1,5 @@
 -- row_into: zeros, then the families of depths, of neighbour counts and of arcs; after each part the row is that of the terms so far. Assumes nothing.
-use Prim.Native.Nat.{ℕ, _+_, _^_, _≤_, _<_}
+use Prim.Native.Nat.{ℕ, _+_, _*_, _^_, _≤_, _<_}
 use mathlib.Core.Path.{_≡_, refl, sym, ap, _∙_}
 use mathlib.Core.List.{List, [], _∷_, _++_}
 use lib.ListN.{length, getD}
@@ -15,20 +15,18 @@ use Rattle.qubo.specs.Table.{rowOf}
 use Rattle.qubo.specs.Rows.{zeros, addTerms}
 use Rattle.qubo.proofs.Families.{norm-append}
 use Rattle.qubo.proofs.RowAction.{add-append, add-length, added-abs, row-none, row-next, row-top, row-room}
-use Rattle.spanning.specs.Parents.{deepest}
-use Rattle.arcs.specs.Arcs.{Arc, arcs}
+use Rattle.arcs.specs.Arcs.{Arc, arcs, arcsEnd}
 use Rattle.arcs.specs.Formula.{rootTerm, depthTerms, entryTerms, endTerms, weightTerms}
-use Rattle.arcs.specs.Lent as below
+use Rattle.arcs.specs.Inner as below
+use Rattle.arcs.proofs.Slices.{bits-few}
 use Rattle.arcs.proofs.DepthRows.{row-depths}
 use Rattle.arcs.proofs.Bound.{root-norm, depths-norm, ends-norm}
 use Rattle.neighbours.specs.Formula.{countTerms, degreeTerms}
-use Rattle.tree.specs.Formula.{bitCount, formulaTo, formula}
-use Rattle.neighbours.specs.Walks.{TableRow}
-use Rattle.tree.specs.Parts.{depthPart, countPart, arcPart}
-use Rattle.tree.specs.Lent.{Lent}
+use Rattle.tree.specs.Formula.{formulaTo}
+use Rattle.neighbours.specs.Inner.{TableRow}
+use Rattle.tree.specs.Inner.{depthPart, countPart, arcPart, WithNeighbourLimit}
 use Rattle.neighbours.proofs.CountValue.{counts-norm}
-use Rattle.tree.proofs.Bound.{deepest-few, formula-norm}
-use Rattle.tree.proofs.Answers.{bits-few}
+use Rattle.tree.proofs.Bound.{norm-to}
 
 -- ---- rows on the way, with terms f added
 
@@ -83,9 +81,9 @@ module _ (N D A M i : ℕ) (r : List ℤ) (t : below.Row (2 ^ 58) N D A M i r) w
       unfolding depthPart
       depth-part ks v entries = entries ∙ ap (addTerms (entryTerms A N D ks) i) both ∙ sym (add-append ((rootTerm A N D ∷ []) ++ depthTerms A N D) (entryTerms A N D ks) i r)
 
-  module _ (ls : List Link) (y : Survey N ls) (e : D ≤ 24) (s : List ℤ) (ends : s ≡ addTerms (endTerms A N D (arcs ls)) i r) where
-    pub weights-ask : below.Row (2 ^ 59) N D A M i s
-    weights-ask = next-row (endTerms A N D (arcs ls)) (omega (arith, ends-norm A N D ls y e, t .penalty)) i r s ends N D A M t
+  module _ (ls : List Link) (s : List ℤ) (ends : s ≡ addTerms (endTerms A N D (arcs ls)) i r) where
+    pub weights-ask : Survey N ls → D ≤ 24 → below.Row (2 ^ 59) N D A M i s
+    weights-ask y e = next-row (endTerms A N D (arcs ls)) (omega (arith, ends-norm A N D ls y e, t .penalty)) i r s ends N D A M t
 
     pub arc-part : (v : List ℤ) → v ≡ addTerms (weightTerms N D (arcs ls)) i s → v ≡ addTerms (arcPart A N D (arcs ls)) i r
     unfolding arcPart
@@ -105,81 +103,83 @@ module _ (N D M d A i : ℕ) (r : List ℤ) (t : TableRow (2 ^ 58) N D M d A i r
 
 -- ---- the whole row
 
--- what the families of `arcs` are lent
-pub arcs-lent : (N d : ℕ) (us vs ws : List ℕ) → Lent N d us vs ws → below.Lent N (deepest N) us vs ws
-arcs-lent N d us vs ws lent = record { arrays = lent .arrays; deep = deepest-few N (lent .arrays .survey .meters-high) }
-
 -- two families more
 row-two : (T : ℕ) (f g h : Formula) (i : ℕ) (r s : List ℤ) → r ≡ rowOf f T i → s ≡ addTerms (g ++ h) i r → s ≡ rowOf (f ++ g ++ h) T i
 row-two T f g h i r s e a = row-next T (f ++ g) h i (addTerms g i r) s (row-next T f g i r (addTerms g i r) e refl) (a ∙ add-append g h i r)
 
-module _ (A N d i : ℕ) (us vs ws : List ℕ) (lent : Lent N d us vs ws) (few : A ≤ 20000000) where
+module _ (A N D d i : ℕ) (us vs ws : List ℕ) (lent : WithNeighbourLimit N d us vs ws) (deep : D ≤ 24) (few : A ≤ 20000000) where
   abbrev M : ℕ
   M = length us
 
   abbrev T : ℕ
-  T = bitCount N M d
+  T = arcsEnd N D M + N * d
 
   abbrev ls : List Link
   ls = linksOf us vs ws
 
   -- the formula up to a part
   abbrev depthsIn : Formula
-  depthsIn = depthPart A N (deepest N) (arcs ls)
+  depthsIn = depthPart A N D (arcs ls)
 
   abbrev countsIn : Formula
-  countsIn = depthsIn ++ countTerms A N (deepest N) M d ++ degreeTerms A N (deepest N) M d (arcs ls)
+  countsIn = depthsIn ++ countTerms A N D M d ++ degreeTerms A N D M d (arcs ls)
 
-  formula-is : formula A N d ls ≡ countsIn ++ endTerms A N (deepest N) (arcs ls) ++ weightTerms N (deepest N) (arcs ls)
+  formula-is : formulaTo D A N d ls ≡ countsIn ++ endTerms A N D (arcs ls) ++ weightTerms N D (arcs ls)
   unfolding formulaTo depthPart
   formula-is = rw (length-linksOf us vs ws) refl
 
-  norm-is : formulaNorm countsIn + formulaNorm (endTerms A N (deepest N) (arcs ls)) + formulaNorm (weightTerms N (deepest N) (arcs ls)) < 2 ^ 54
+  norm-is : formulaNorm countsIn + formulaNorm (endTerms A N D (arcs ls)) + formulaNorm (weightTerms N D (arcs ls)) < 2 ^ 54
   norm-is =
       omega (
         arith,
-        formula-norm A N d ls (lent .arrays .survey) (lent .high) few,
+        norm-to D A N d ls (lent .arrays .survey) deep (lent .high) few,
         ap formulaNorm formula-is,
-        norm-append (countsIn ++ endTerms A N (deepest N) (arcs ls)) (weightTerms N (deepest N) (arcs ls)),
-        norm-append countsIn (endTerms A N (deepest N) (arcs ls)),
+        norm-append (countsIn ++ endTerms A N D (arcs ls)) (weightTerms N D (arcs ls)),
+        norm-append countsIn (endTerms A N D (arcs ls)),
       )
 
-  module _ (inside : i < T) where
+  module _ (L : ℕ) (long : i + L ≡ T) (own : 1 ≤ L) where
     -- a row of terms that are small
-    filled : (f : Formula) (r : List ℤ) → r ≡ rowOf f T i → formulaNorm f ≤ 2 ^ 57 → below.Row (2 ^ 58) N (deepest N) A M i r × TableRow (2 ^ 58) N (deepest N) M d A i r
+    filled : (f : Formula) (r : List ℤ) → r ≡ rowOf f T i → formulaNorm f ≤ 2 ^ 57 → below.Row (2 ^ 58) N D A M i r × TableRow (2 ^ 58) N D M d A i r
     filled f r e h =
         let top = row-top T f i r (omega arith) e in
         let s = row-room (2 ^ 58) T f [] i r e (omega arith) in
-        let b = bits-few N M d (lent .arrays .survey .meters-high) (arrays-few N us vs ws (lent .arrays)) (lent .high) in (
+        let b = bits-few N D M d (lent .arrays .survey .meters-high) deep (arrays-few N us vs ws (lent .arrays)) (lent .high) in (
           record { own = omega arith; inside = omega arith; short = omega (arith, b); small = λ k. omega (arith, s .room k); penalty = few },
           record { own = omega arith; whole = top; small = λ k. omega (arith, s .room k); penalty = few },
         )
 
-    module _ (L : ℕ) (long : i + L ≡ T) (r : List ℤ) (none : r ≡ zeros L) where
-      pub depths-ready : below.Row (2 ^ 58) N (deepest N) A M i r
+    -- what place_of is asked
+    pub place-asks : below.WithDepths N D us vs ws × (i ≤ 2 ^ 32)
+    place-asks =
+        let b = bits-few N D M d (lent .arrays .survey .meters-high) deep (arrays-few N us vs ws (lent .arrays)) (lent .high) in
+        (record { arrays = lent .arrays; deep = deep }, omega arith)
+
+    module _ (r : List ℤ) (none : r ≡ zeros L) where
+      pub depths-ready : below.Row (2 ^ 58) N D A M i r
       depths-ready = filled [] r (row-none T L i r long none) (omega arith) .0
 
       module _ (s : List ℤ) (depths : s ≡ addTerms depthsIn i r) where
         with-depths : s ≡ rowOf depthsIn T i
         with-depths = row-next T [] depthsIn i r s (row-none T L i r long none) depths
 
-        pub counts-ready : TableRow (2 ^ 58) N (deepest N) M d A i s
+        pub counts-ready : TableRow (2 ^ 58) N D M d A i s
         counts-ready =
             filled depthsIn s with-depths (omega (
               arith,
               norm-is,
-              norm-append (depthsIn ++ countTerms A N (deepest N) M d) (degreeTerms A N (deepest N) M d (arcs ls)),
-              norm-append depthsIn (countTerms A N (deepest N) M d),
+              norm-append (depthsIn ++ countTerms A N D M d) (degreeTerms A N D M d (arcs ls)),
+              norm-append depthsIn (countTerms A N D M d),
             )) .1
 
-        module _ (t : List ℤ) (counts : t ≡ addTerms (countPart A N (deepest N) M d (arcs ls)) i s) where
+        module _ (t : List ℤ) (counts : t ≡ addTerms (countPart A N D M d (arcs ls)) i s) where
           with-counts : t ≡ rowOf countsIn T i
           unfolding countPart
-          with-counts = row-two T depthsIn (countTerms A N (deepest N) M d) (degreeTerms A N (deepest N) M d (arcs ls)) i s t with-depths counts
+          with-counts = row-two T depthsIn (countTerms A N D M d) (degreeTerms A N D M d (arcs ls)) i s t with-depths counts
 
-          pub arcs-ready : below.Row (2 ^ 58) N (deepest N) A M i t
+          pub arcs-ready : below.Row (2 ^ 58) N D A M i t
           arcs-ready = filled countsIn t with-counts (omega (arith, norm-is)) .0
 
-          pub row-done : (u : List ℤ) → u ≡ addTerms (arcPart A N (deepest N) (arcs ls)) i t → u ≡ rowOf (formula A N d ls) T i
+          pub row-done : (u : List ℤ) → u ≡ addTerms (arcPart A N D (arcs ls)) i t → u ≡ rowOf (formulaTo D A N d ls) T i
           unfolding arcPart
-          row-done u arc = row-two T countsIn (endTerms A N (deepest N) (arcs ls)) (weightTerms N (deepest N) (arcs ls)) i t u with-counts arc ∙ ap (λ (f : Formula). rowOf f T i) (sym formula-is)
+          row-done u arc = row-two T countsIn (endTerms A N D (arcs ls)) (weightTerms N D (arcs ls)) i t u with-counts arc ∙ ap (λ (f : Formula). rowOf f T i) (sym formula-is)

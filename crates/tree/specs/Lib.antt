@@ -2,6 +2,5 @@ pub mod Formula
 pub mod Plans
 pub mod Decoding
 pub mod Best
-pub mod Lent
-pub mod Stores
-pub mod Parts
+pub mod Instance
+pub mod Inner

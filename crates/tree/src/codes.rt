@@ -1,25 +1,26 @@
 // The code of a plan, and the parents that an assignment's arcs give.
+use arcs::layout;
 ghost use Prim.Native.Nat.{ℕ, _+_, _*_, _≤_, _<_};
 ghost use mathlib.Core.Bool.{true};
 ghost use mathlib.Core.Path.{_≡_};
 ghost use mathlib.Core.List.{List};
 ghost use lib.ListN.{length, getD};
-ghost use Rattle.lists.specs.Sums.{sumTo, sumOf, same};
 ghost use Rattle.links.specs.Links.{linksOf};
-ghost use Rattle.links.specs.Survey.{Arrays};
+ghost use Rattle.links.specs.Survey.{Ends};
 ghost use Rattle.qubo.specs.Formula.{Bits};
 ghost use Rattle.onehot.specs.Choices.{code};
-ghost use Rattle.arcs.specs.Arcs.{Arc, arcs, arcsEnd, arcAt};
-ghost use Rattle.arcs.specs.Walks.{Used};
+ghost use Rattle.spanning.specs.Parents as parents;
+ghost use Rattle.arcs.specs.Arcs.{Arc};
+ghost use Rattle.arcs.specs.Inner.{Used};
 ghost use Rattle.tree.specs.Formula.{bitCount};
 ghost use Rattle.tree.specs.Plans.{depthChoices, arcChoice, arcChoices, countChoices, isPlan, codeOf};
 ghost use Rattle.tree.specs.Decoding.{candidateTo};
-ghost use Rattle.tree.specs.Stores.{Counted, Ends, placed, setFrom, added};
+ghost use Rattle.tree.specs.Inner.{Counted, placed, setFrom, added, Readable};
 
 // Which of its bits the arc from u to v has set, from 1: that of the depth of v where u is its parent, else none. Depths are found once for each meter, so their bits are lent.
-fn arc_choice(plan: &[u8], depths: &[u8], u: u8, v: u8, meters: usize) -> u8
-    requires { ⌜ (1 ≤ u) × (u ≤ meters) × (1 ≤ v) × (v ≤ meters) × (now depths ≡ depthChoices meters (now plan)) × (length (now plan) ≡ meters) ⌝ }
-    ensures { λ r. ⌜ ((a : Arc) → a .parent ≡ u → a .child ≡ v → r ≡ arcChoice meters (now (plan .entry)) a) ⌝ }
+fn arc_choice(plan: &[u8], depths: &[u8], u: u8, v: u8) -> u8
+    requires { ⌜ (1 ≤ v) × (v ≤ length (now plan)) × (now depths ≡ depthChoices (length (now plan)) (now plan)) ⌝ }
+    ensures { λ r. ⌜ ((a : Arc) → a .parent ≡ u → a .child ≡ v → r ≡ arcChoice (length (now (plan .entry))) (now (plan .entry)) a) ⌝ }
 {
     if crate::plans::is_parent(plan, u, v) == 0 {
         return 0;
@@ -32,15 +33,15 @@ fn arc_choice(plan: &[u8], depths: &[u8], u: u8, v: u8, meters: usize) -> u8
 }
 
 // Which of its bits each arc has set, whatever the weights are: for each link that of u to v, then that of v to u.
-fn fill_arcs(choices: &mut [u8], plan: &[u8], depths: &[u8], us: &[u8], vs: &[u8], meters: usize)
-    requires { ⌜ (now depths ≡ depthChoices meters (now plan)) × Ends meters (now us) (now vs) × (length (now vs) ≡ length (now us)) × (length (now us) ≤ 256) × (length (now choices) ≡ 2 * length (now us)) × (length (now plan) ≡ meters) ⌝ }
-    ensures { λ _. ⌜ ((ws : List ℕ) → now (choices .exit) ≡ arcChoices meters (linksOf (now (us .entry)) (now (vs .entry)) ws) (now (plan .entry))) ⌝ }
+fn fill_arcs(choices: &mut [u8], plan: &[u8], depths: &[u8], us: &[u8], vs: &[u8])
+    requires { ⌜ (now depths ≡ depthChoices (length (now plan)) (now plan)) × Ends (length (now plan)) (now us) (now vs) × (length (now choices) ≡ 2 * length (now us)) ⌝ }
+    ensures { λ _. ⌜ ((ws : List ℕ) → now (choices .exit) ≡ arcChoices (length (now (plan .entry))) (linksOf (now (us .entry)) (now (vs .entry)) ws) (now (plan .entry))) ⌝ }
 {
     let mut k: usize = 0;
     while k < us.len() {
         let at = 2 * k;
-        choices[at] = arc_choice(plan, depths, us[k], vs[k], meters);
-        choices[at + 1] = arc_choice(plan, depths, vs[k], us[k], meters);
+        choices[at] = arc_choice(plan, depths, us[k], vs[k]);
+        choices[at + 1] = arc_choice(plan, depths, vs[k], us[k]);
         k += 1;
     }
 }
@@ -74,17 +75,16 @@ fn code_arcs(
     depths: &[u8],
     us: &[u8],
     vs: &[u8],
-    meters: usize,
     n: usize,
     start: usize,
     bits: &mut [u8],
 )
-    requires { ⌜ (now depths ≡ depthChoices meters (now plan)) × Ends meters (now us) (now vs) × (length (now vs) ≡ length (now us)) × (length (now us) ≤ 256) × (length (now choices) ≡ 2 * length (now us)) × (length (now plan) ≡ meters) ⌝ }
-    requires { ⌜ ((ws : List ℕ) (k : ℕ) → getD (arcChoices meters (linksOf (now us) (now vs) ws) (now plan)) k 0 ≤ n) × (start + 2 * length (now us) * n ≤ length (now bits)) ⌝ }
-    ensures choices { λ _. ⌜ ((ws : List ℕ) → now (choices .exit) ≡ arcChoices meters (linksOf (now (us .entry)) (now (vs .entry)) ws) (now (plan .entry))) ⌝ }
-    ensures bits { λ _. ⌜ ((ws : List ℕ) → now (bits .exit) ≡ placed start (code n (arcChoices meters (linksOf (now (us .entry)) (now (vs .entry)) ws) (now (plan .entry)))) (now (bits .entry))) ⌝ }
+    requires { ⌜ (now depths ≡ depthChoices (length (now plan)) (now plan)) × Ends (length (now plan)) (now us) (now vs) × (length (now choices) ≡ 2 * length (now us)) ⌝ }
+    requires { ⌜ ((ws : List ℕ) (k : ℕ) → getD (arcChoices (length (now plan)) (linksOf (now us) (now vs) ws) (now plan)) k 0 ≤ n) × (start + 2 * length (now us) * n ≤ length (now bits)) ⌝ }
+    ensures choices { λ _. ⌜ ((ws : List ℕ) → now (choices .exit) ≡ arcChoices (length (now (plan .entry))) (linksOf (now (us .entry)) (now (vs .entry)) ws) (now (plan .entry))) ⌝ }
+    ensures bits { λ _. ⌜ ((ws : List ℕ) → now (bits .exit) ≡ placed start (code n (arcChoices (length (now (plan .entry))) (linksOf (now (us .entry)) (now (vs .entry)) ws) (now (plan .entry)))) (now (bits .entry))) ⌝ }
 {
-    fill_arcs(choices, plan, depths, us, vs, meters);
+    fill_arcs(choices, plan, depths, us, vs);
     encode_part(choices, n, start, bits);
 }
 
@@ -100,33 +100,31 @@ fn code_counts(choices: &mut [u8], plan: &[u8], d: usize, start: usize, bits: &m
     encode_part(choices, d, start, bits);
 }
 
-// The code of a plan: depths, whose bits are lent, arcs and numbers of neighbours.
+// The code of a plan, whatever the weights are: depths, whose bits are lent, arcs and numbers of neighbours.
 pub fn encode(
     plan: &[u8],
     depths: &[u8],
     us: &[u8],
     vs: &[u8],
-    ws: &[u16],
     meters: usize,
+    deepest: usize,
     d: usize,
     bits: &mut [u8],
 )
-    requires { ⌜ Arrays meters (now us) (now vs) (now ws) × (isPlan meters d (linksOf (now us) (now vs) (now ws)) (now plan) ≡ true) × (now depths ≡ depthChoices meters (now plan)) × (length (now bits) ≡ bitCount meters (length (now us)) d) ⌝ }
-    ensures { λ _. ⌜ now (bits .exit) ≡ codeOf meters d (linksOf (now (us .entry)) (now (vs .entry)) (now (ws .entry))) (now (plan .entry)) ⌝ }
+    requires { ⌜ Ends meters (now us) (now vs) × (deepest ≡ parents.deepest meters) × ((ws : List ℕ) × (isPlan meters d (linksOf (now us) (now vs) ws) (now plan) ≡ true)) × (now depths ≡ depthChoices meters (now plan)) × (length (now bits) ≡ bitCount meters (length (now us)) d) ⌝ }
+    ensures { λ _. ⌜ ((ws : List ℕ) → now (bits .exit) ≡ codeOf meters d (linksOf (now (us .entry)) (now (vs .entry)) ws) (now (plan .entry))) ⌝ }
 {
-    let deepest = meters / 2;
-    let first = meters * (deepest + 1);
-    let second = first + 2 * us.len() * deepest;
+    let first = layout::depths_end(meters, deepest);
+    let second = layout::arcs_end(meters, deepest, us.len());
     let mut arcs: [u8; 512] = [0; 512];
     let mut counts: [u8; 256] = [0; 256];
-    encode_part(depths, deepest + 1, 0, bits);
+    encode_part(depths, layout::depth_width(deepest), 0, bits);
     code_arcs(
         &mut arcs[..2 * us.len()],
         plan,
         depths,
         us,
         vs,
-        meters,
         deepest,
         first,
         bits,
@@ -161,25 +159,23 @@ fn read_link(bits: &[u8], start: usize, deepest: usize, u: u8, v: u8, n: u8, pla
     read_arc(bits, middle, deepest, v, u, plan);
 }
 
-// The parents read off the arcs, where no meter has more than one arc set into it. How many bits each link's arcs have set is lent.
+// The parents read off the arcs, whatever the weights are, where no meter has more than one arc set into it. How many bits each link's arcs have set is lent.
 pub fn read_parents(
     bits: &[u8],
     used: &[u8],
     us: &[u8],
     vs: &[u8],
-    ws: &[u16],
     meters: usize,
     deepest: usize,
     plan: &mut [u8],
 )
-    requires { ⌜ Arrays meters (now us) (now vs) (now ws) × (deepest ≤ 24) × Bits (now bits) × (arcsEnd meters deepest (length (now us)) ≤ length (now bits)) × (length (now plan) ≡ meters) × ((v : ℕ) → 1 ≤ v → v ≤ meters → sumOf (arcs (linksOf (now us) (now vs) (now ws))) (λ a. same (a .child) v * sumTo deepest (arcAt meters deepest (now bits) a)) ≤ 1) × Used meters deepest (length (now us)) (now bits) (now used) ⌝ }
-    ensures { λ _. ⌜ now (plan .exit) ≡ candidateTo deepest meters (linksOf (now (us .entry)) (now (vs .entry)) (now (ws .entry))) (now (bits .entry)) ⌝ }
+    requires { ⌜ Readable meters deepest (now us) (now vs) (now bits) × (length (now plan) ≡ meters) × Used meters deepest (length (now us)) (now bits) (now used) ⌝ }
+    ensures { λ _. ⌜ ((ws : List ℕ) → now (plan .exit) ≡ candidateTo deepest meters (linksOf (now (us .entry)) (now (vs .entry)) ws) (now (bits .entry))) ⌝ }
 {
     onehot::clear_bits(plan);
-    let ends = meters * (deepest + 1);
     let mut k: usize = 0;
     while k < us.len() {
-        let start = ends + 2 * k * deepest;
+        let start = layout::arc_start(meters, deepest, 2 * k);
         read_link(bits, start, deepest, us[k], vs[k], used[k], plan);
         k += 1;
     }

@@ -1,20 +1,21 @@
 // Kind 3, tree: what document 01 asks of it, over the number of meters, the links as three arrays, and d.
 // Definitions are in specs/ here and in `spanning` and `arcs`; that the assignments below A are the codes of plans, and the lowest those of the best spanning trees within the neighbour limit where there is any, is proved in proofs/.
+use arcs::layout;
 ghost use Prim.Native.Nat.{ℕ, _+_, _-_, _≤_, _<_};
 ghost use mathlib.Core.Bool.{cond};
 ghost use mathlib.Core.Path.{_≡_};
 ghost use mathlib.Core.List.{List, _++_};
 ghost use lib.ListN.{length, drop};
 ghost use Rattle.links.specs.Links.{Link, linksOf};
-ghost use Rattle.links.specs.Survey.{Arrays};
+ghost use Rattle.links.specs.Survey.{Ends};
 ghost use Rattle.qubo.specs.Formula.{Assignment, value};
 ghost use Rattle.qubo.specs.Table.{constantOf, rowOf};
-ghost use Rattle.spanning.specs.Parents.{deepest};
+ghost use Rattle.qubo.specs.Decoding.{answerOf, planAfter};
+ghost use Rattle.spanning.specs.Parents as parents;
 ghost use Rattle.tree.specs.Formula.{withinLimits, bitCount, penalty, formula, bitsOf};
-ghost use Rattle.tree.specs.Parts.{brokenChoices};
+ghost use Rattle.tree.specs.Inner.{brokenChoices, WithNeighbourLimit};
 ghost use Rattle.tree.specs.Plans.{isPlan, codeOf};
-ghost use Rattle.tree.specs.Decoding.{answerOf, planAfter};
-ghost use Rattle.tree.specs.Lent.{Lent};
+ghost use Rattle.tree.specs.Instance.{instance};
 
 mod codes;
 mod plans;
@@ -50,15 +51,9 @@ impl Tree {
         requires { ⌜ (meters ≤ 48) × (links ≤ 256) × (d ≤ 47) ⌝ }
         ensures { λ r. ⌜ (r ≡ bitCount meters links d) × (r ≤ 15744) ⌝ }
     {
-        let deepest = meters / 2;
-        neighbours::counts::first_count(meters, deepest, links) + meters * d
+        let deepest = spanning::deepest(meters);
+        layout::counts_end(meters, deepest, links, d)
     }
-}
-
-// What bits decode to: a plan, with its tree's weight, or none. The plan itself lies in the lent buffer.
-pub enum Decoded {
-    Plan { weight: u64 },
-    NoPlan,
 }
 
 // A: 1 plus the sum of all weights, whatever their ends are.
@@ -89,11 +84,12 @@ pub fn fill_row(
     i: usize,
     out: &mut [i64],
 )
-    requires { ⌜ Lent meters d (now us) (now vs) (now ws) × (penalty ≤ 20000000) × (i < bitCount meters (length (now us)) d) × (bitCount meters (length (now us)) d ≤ i + length (now out)) ⌝ }
+    requires { ⌜ WithNeighbourLimit meters d (now us) (now vs) (now ws) × (penalty ≤ 20000000) × (i < bitCount meters (length (now us)) d) × (bitCount meters (length (now us)) d ≤ i + length (now out)) ⌝ }
     ensures { λ _. ⌜ now (out .exit) ≡ rowOf (formula penalty meters d (linksOf (now (us .entry)) (now (vs .entry)) (now (ws .entry)))) (bitCount meters (length (now (us .entry))) d) i ++ drop (bitCount meters (length (now (us .entry))) d - i) (now (out .entry)) ⌝ }
 {
-    let len = Tree::bits(meters, us.len(), d) - i;
-    rows::row_into(&mut out[..len], us, vs, ws, meters, d, penalty, i);
+    let deepest = spanning::deepest(meters);
+    let len = layout::counts_end(meters, deepest, us.len(), d) - i;
+    rows::row_into(&mut out[..len], us, vs, ws, meters, deepest, d, penalty, i);
 }
 
 // The energy of an assignment; in the lent places each link's arc bits are counted.
@@ -104,15 +100,16 @@ fn energy_with(
     vs: &[u8],
     ws: &[u16],
     meters: usize,
+    deepest: usize,
     d: usize,
     penalty: u64,
 ) -> i64
-    requires { ⌜ Lent meters d (now us) (now vs) (now ws) × (penalty ≤ 20000000) × Assignment (bitCount meters (length (now us)) d) (now bits) × (length (now used) ≡ length (now us)) ⌝ }
+    requires { ⌜ WithNeighbourLimit meters d (now us) (now vs) (now ws) × (deepest ≡ parents.deepest meters) × (penalty ≤ 20000000) × Assignment (bitCount meters (length (now us)) d) (now bits) × (length (now used) ≡ length (now us)) ⌝ }
     ensures { λ r. ⌜ r ≡ value (formula penalty meters d (linksOf (now (us .entry)) (now (vs .entry)) (now (ws .entry)))) (now (bits .entry)) ⌝ }
 {
-    arcs::sums::count_used(used, bits, meters, meters / 2);
-    let at_choices = sums::broken_choices(bits, us, vs, ws, meters, d);
-    let at_arcs = sums::broken_arcs(bits, used, us, vs, ws, meters, d);
+    arcs::sums::count_used(used, bits, meters, deepest);
+    let at_choices = sums::broken_choices(bits, meters, deepest, us.len(), d);
+    let at_arcs = sums::broken_arcs(bits, used, us, vs, meters, deepest, d);
     let cost = arcs::sums::arc_cost(used, ws);
     let sum = penalty * (at_choices + at_arcs) + cost;
     sum as i64
@@ -128,37 +125,48 @@ pub fn energy(
     d: usize,
     penalty: u64,
 ) -> i64
-    requires { ⌜ Lent meters d (now us) (now vs) (now ws) × (penalty ≤ 20000000) × Assignment (bitCount meters (length (now us)) d) (now bits) ⌝ }
+    requires { ⌜ WithNeighbourLimit meters d (now us) (now vs) (now ws) × (penalty ≤ 20000000) × Assignment (bitCount meters (length (now us)) d) (now bits) ⌝ }
     ensures { λ r. ⌜ r ≡ value (formula penalty meters d (linksOf (now (us .entry)) (now (vs .entry)) (now (ws .entry)))) (now (bits .entry)) ⌝ }
 {
+    let deepest = spanning::deepest(meters);
     let n = us.len();
     let mut used: [u8; 256] = [0; 256];
-    energy_with(bits, &mut used[..n], us, vs, ws, meters, d, penalty)
+    energy_with(
+        bits,
+        &mut used[..n],
+        us,
+        vs,
+        ws,
+        meters,
+        deepest,
+        d,
+        penalty,
+    )
 }
 
-// Whether the bytes are a plan: parents that make a tree within the neighbour limit, with no depth over D. Where they are, the bits are then its code. Depths take a walk up from each meter, so they are found once for both.
+// Whether the bytes are a plan, whatever the weights are: parents that make a tree within the neighbour limit, with no depth over D. Where they are, the bits are then its code. Depths take a walk up from each meter, so they are found once for both.
 pub fn encode_plan(
     plan: &[u8],
     us: &[u8],
     vs: &[u8],
-    ws: &[u16],
     meters: usize,
     d: usize,
     bits: &mut [u8],
 ) -> bool
-    requires { ⌜ Arrays meters (now us) (now vs) (now ws) × (length (now bits) ≡ bitCount meters (length (now us)) d) ⌝ }
-    ensures plan { λ r. ⌜ r ≡ isPlan meters d (linksOf (now (us .entry)) (now (vs .entry)) (now (ws .entry))) (now (plan .entry)) ⌝ }
-    ensures bits { λ _. ⌜ now (bits .exit) ≡ cond (isPlan meters d (linksOf (now (us .entry)) (now (vs .entry)) (now (ws .entry))) (now (plan .entry))) (codeOf meters d (linksOf (now (us .entry)) (now (vs .entry)) (now (ws .entry))) (now (plan .entry))) (now (bits .entry)) ⌝ }
+    requires { ⌜ Ends meters (now us) (now vs) × (length (now bits) ≡ bitCount meters (length (now us)) d) ⌝ }
+    ensures plan { λ r. ⌜ ((ws : List ℕ) → r ≡ isPlan meters d (linksOf (now (us .entry)) (now (vs .entry)) ws) (now (plan .entry))) ⌝ }
+    ensures bits { λ _. ⌜ ((ws : List ℕ) → now (bits .exit) ≡ cond (isPlan meters d (linksOf (now (us .entry)) (now (vs .entry)) ws) (now (plan .entry))) (codeOf meters d (linksOf (now (us .entry)) (now (vs .entry)) ws) (now (plan .entry))) (now (bits .entry))) ⌝ }
 {
+    let deepest = spanning::deepest(meters);
     let mut depths: [u8; 256] = [0; 256];
-    if !plans::is_plan(plan, us, vs, ws, meters, d, &mut depths[..meters]) {
+    if !plans::is_plan(plan, us, vs, meters, deepest, d, &mut depths[..meters]) {
         return false;
     }
-    codes::encode(plan, &depths[..meters], us, vs, ws, meters, d, bits);
+    codes::encode(plan, &depths[..meters], us, vs, meters, deepest, d, bits);
     true
 }
 
-// The plan of bits that have one root, and one depth and one number of neighbours for each meter: there is one exactly where the sums over arcs are 0 too, and it is then read off the arcs. In the lent places each link's arc bits are counted.
+// The plan of bits that have one root, and one depth and one number of neighbours for each meter, whatever A is: there is one exactly where the sums over arcs are 0 too, and it is then read off the arcs. In the lent places each link's arc bits are counted.
 fn decode_arcs(
     bits: &[u8],
     used: &mut [u8],
@@ -166,24 +174,24 @@ fn decode_arcs(
     vs: &[u8],
     ws: &[u16],
     meters: usize,
+    deepest: usize,
     d: usize,
     plan: &mut [u8],
-) -> Decoded
-    requires { ⌜ Lent meters d (now us) (now vs) (now ws) × Assignment (bitCount meters (length (now us)) d) (now bits) × (length (now plan) ≡ meters) × (length (now used) ≡ length (now us)) × (brokenChoices meters (deepest meters) d (bitsOf meters (deepest meters) (length (now us)) d (now bits)) ≡ 0) ⌝ }
-    ensures answer { λ r. ⌜ r ≡ answerOf meters d (linksOf (now (us .entry)) (now (vs .entry)) (now (ws .entry))) (now (bits .entry)) ⌝ }
-    ensures plan { λ r. ⌜ now (plan .exit) ≡ planAfter meters d (linksOf (now (us .entry)) (now (vs .entry)) (now (ws .entry))) (now (bits .entry)) (now (plan .entry)) ⌝ }
+) -> qubo::Decoded
+    requires { ⌜ WithNeighbourLimit meters d (now us) (now vs) (now ws) × (deepest ≡ parents.deepest meters) × Assignment (bitCount meters (length (now us)) d) (now bits) × (length (now plan) ≡ meters) × (length (now used) ≡ length (now us)) × (brokenChoices meters deepest d (bitsOf meters deepest (length (now us)) d (now bits)) ≡ 0) ⌝ }
+    ensures answer { λ r. ⌜ ((A : ℕ) → r ≡ answerOf (instance A meters d (linksOf (now (us .entry)) (now (vs .entry)) (now (ws .entry)))) (now (bits .entry))) ⌝ }
+    ensures plan { λ _. ⌜ ((A : ℕ) → now (plan .exit) ≡ planAfter (instance A meters d (linksOf (now (us .entry)) (now (vs .entry)) (now (ws .entry)))) (now (bits .entry)) (now (plan .entry))) ⌝ }
 {
-    let deep = meters / 2;
-    arcs::sums::count_used(used, bits, meters, deep);
-    if sums::broken_arcs(bits, used, us, vs, ws, meters, d) != 0 {
-        return Decoded::NoPlan;
+    arcs::sums::count_used(used, bits, meters, deepest);
+    if sums::broken_arcs(bits, used, us, vs, meters, deepest, d) != 0 {
+        return qubo::Decoded::NoPlan;
     }
-    codes::read_parents(bits, used, us, vs, ws, meters, deep, plan);
+    codes::read_parents(bits, used, us, vs, meters, deepest, plan);
     let weight = plans::tree_weight(plan, us, vs, ws);
-    Decoded::Plan { weight: weight }
+    qubo::Decoded::Plan { weight: weight }
 }
 
-// The plan that an assignment codes, if any. The sums that look at no arc come first: they have few bits, and bits that are no code seldom pass them.
+// The plan that an assignment codes, if any, whatever A is. The sums that look at no arc come first: they have few bits, and bits that are no code seldom pass them.
 pub fn decode(
     bits: &[u8],
     us: &[u8],
@@ -192,15 +200,16 @@ pub fn decode(
     meters: usize,
     d: usize,
     plan: &mut [u8],
-) -> Decoded
-    requires { ⌜ Lent meters d (now us) (now vs) (now ws) × Assignment (bitCount meters (length (now us)) d) (now bits) × (length (now plan) ≡ meters) ⌝ }
-    ensures answer { λ r. ⌜ r ≡ answerOf meters d (linksOf (now (us .entry)) (now (vs .entry)) (now (ws .entry))) (now (bits .entry)) ⌝ }
-    ensures plan { λ r. ⌜ now (plan .exit) ≡ planAfter meters d (linksOf (now (us .entry)) (now (vs .entry)) (now (ws .entry))) (now (bits .entry)) (now (plan .entry)) ⌝ }
+) -> qubo::Decoded
+    requires { ⌜ WithNeighbourLimit meters d (now us) (now vs) (now ws) × Assignment (bitCount meters (length (now us)) d) (now bits) × (length (now plan) ≡ meters) ⌝ }
+    ensures answer { λ r. ⌜ ((A : ℕ) → r ≡ answerOf (instance A meters d (linksOf (now (us .entry)) (now (vs .entry)) (now (ws .entry)))) (now (bits .entry))) ⌝ }
+    ensures plan { λ _. ⌜ ((A : ℕ) → now (plan .exit) ≡ planAfter (instance A meters d (linksOf (now (us .entry)) (now (vs .entry)) (now (ws .entry)))) (now (bits .entry)) (now (plan .entry))) ⌝ }
 {
-    if sums::broken_choices(bits, us, vs, ws, meters, d) != 0 {
-        return Decoded::NoPlan;
-    }
+    let deepest = spanning::deepest(meters);
     let n = us.len();
+    if sums::broken_choices(bits, meters, deepest, n, d) != 0 {
+        return qubo::Decoded::NoPlan;
+    }
     let mut used: [u8; 256] = [0; 256];
-    decode_arcs(bits, &mut used[..n], us, vs, ws, meters, d, plan)
+    decode_arcs(bits, &mut used[..n], us, vs, ws, meters, deepest, d, plan)
 }

@@ -7,10 +7,11 @@ ghost use lib.ListN.{length};
 ghost use Rattle.lists.specs.Tests.{all, from};
 ghost use Rattle.lists.specs.Sums.{sumOf, same, nth};
 ghost use Rattle.links.specs.Links.{Link, linksOf};
-ghost use Rattle.links.specs.Survey.{Arrays};
-ghost use Rattle.spanning.specs.Parents.{deepest, depthOf, atMost, neighbours};
+ghost use Rattle.links.specs.Survey.{Arrays, Ends};
+ghost use Rattle.spanning.specs.Parents.{depthOf, atMost, neighbours};
+ghost use Rattle.spanning.specs.Parents as parents;
 ghost use Rattle.tree.specs.Plans.{bitOfDepth, depthChoices, fewNeighbours, isPlan, treeWeight};
-ghost use Rattle.tree.specs.Stores.{Counted, Ends, usedWeight};
+ghost use Rattle.tree.specs.Inner.{Counted, usedWeight};
 
 // 1 where u is the parent of meter v, else 0. Ends of links are meters, so their parents are read with no further test.
 pub fn is_parent(plan: &[u8], u: u8, v: u8) -> usize
@@ -25,7 +26,7 @@ pub fn is_parent(plan: &[u8], u: u8, v: u8) -> usize
 
 // How many links join a meter to its parent, whatever their weights are.
 fn parent_links(plan: &[u8], us: &[u8], vs: &[u8]) -> usize
-    requires { ⌜ Ends (length (now plan)) (now us) (now vs) × (length (now vs) ≡ length (now us)) × (length (now us) ≤ 256) ⌝ }
+    requires { ⌜ Ends (length (now plan)) (now us) (now vs) ⌝ }
     ensures { λ r. ⌜ ((ws : List ℕ) → r ≡ sumOf (linksOf (now (us .entry)) (now (vs .entry)) ws) (λ l. same (nth (now (plan .entry)) (l .u)) (l .v) + same (nth (now (plan .entry)) (l .v)) (l .u))) ⌝ }
 {
     let mut count: usize = 0;
@@ -91,11 +92,11 @@ fn fill_depths(depths: &mut [u8], plan: &[u8], meters: usize)
 }
 
 // Whether no depth exceeds D; a ring of parents has no depth. The bits of all depths are lent.
-fn depths_within(depths: &[u8], meters: usize) -> bool
-    requires { ⌜ (meters ≤ 48) × (length (now depths) ≡ meters) ⌝ }
-    ensures { λ r. ⌜ ((p : List ℕ) → now (depths .entry) ≡ depthChoices meters p → r ≡ all (λ v. atMost (deepest meters) (depthOf p meters v)) (from 1 meters)) ⌝ }
+fn depths_within(depths: &[u8], meters: usize, deepest: usize) -> bool
+    requires { ⌜ (deepest ≤ 24) × (length (now depths) ≡ meters) ⌝ }
+    ensures { λ r. ⌜ ((p : List ℕ) → now (depths .entry) ≡ depthChoices meters p → r ≡ all (λ v. atMost deepest (depthOf p meters v)) (from 1 meters)) ⌝ }
 {
-    let last = (meters / 2 + 1) as u8;
+    let last = arcs::layout::depth_width(deepest) as u8;
     let mut v: usize = 0;
     while v < meters {
         let b = depths[v];
@@ -138,18 +139,18 @@ fn within_limit(counts: &[u64], plan: &[u8], d: usize) -> bool
     true
 }
 
-// Whether the bytes are a plan. With one root, all parents are linked neighbours exactly where meters - 1 links join a meter to its parent. Depths come last, since they take a walk up from each meter; the bits of a plan's depths are then in the lent slice.
+// Whether the bytes are a plan, whatever the weights are. With one root, all parents are linked neighbours exactly where meters - 1 links join a meter to its parent. Depths come last, since they take a walk up from each meter; the bits of a plan's depths are then in the lent slice.
 pub fn is_plan(
     plan: &[u8],
     us: &[u8],
     vs: &[u8],
-    ws: &[u16],
     meters: usize,
+    deepest: usize,
     d: usize,
     depths: &mut [u8],
 ) -> bool
-    requires { ⌜ Arrays meters (now us) (now vs) (now ws) × (length (now depths) ≡ meters) ⌝ }
-    ensures plan { λ r. ⌜ r ≡ isPlan meters d (linksOf (now (us .entry)) (now (vs .entry)) (now (ws .entry))) (now (plan .entry)) ⌝ }
+    requires { ⌜ Ends meters (now us) (now vs) × (deepest ≡ parents.deepest meters) × (length (now depths) ≡ meters) ⌝ }
+    ensures plan { λ r. ⌜ ((ws : List ℕ) → r ≡ isPlan meters d (linksOf (now (us .entry)) (now (vs .entry)) ws) (now (plan .entry))) ⌝ }
     ensures depths { λ r. ⌜ (r ≡ true → now (depths .exit) ≡ depthChoices meters (now (plan .entry))) ⌝ }
 {
     if plan.len() != meters {
@@ -167,5 +168,5 @@ pub fn is_plan(
         return false;
     }
     fill_depths(depths, plan, meters);
-    depths_within(depths, meters)
+    depths_within(depths, meters, deepest)
 }

@@ -69,7 +69,7 @@ fn repair_agrees(
 ) -> bool {
     let mut expected = [bytes::PATTERN; 8];
     let repaired = reference::repair(weights, c.meters, c.size, bits, &mut expected);
-    let weight = reference::weight(weights, c.meters, c.kind, &expected);
+    let weight = reference::weight(weights, c.meters, c.ask.kind, &expected);
     if energy < std::num::wrapping_add_u64(weight, repaired) {
         return false;
     }
@@ -86,7 +86,7 @@ fn code_agrees(weights: &[u16; 2500], c: Case, bits: &[u8; 128], plan: &[u8; 8],
     if !lists::code_of(weights, c, plan, &mut code) {
         return false;
     }
-    if calls::is_plan(p, reference::weight(weights, c.meters, c.kind, plan), 0) {
+    if calls::is_plan(p, reference::weight(weights, c.meters, c.ask.kind, plan), 0) {
         bytes::same_code(&code, bits)
     } else {
         false
@@ -98,7 +98,7 @@ fn last_number(c: Case, energy: u64) -> u64 {
     if c.flaw != 0 {
         return c.flaw;
     }
-    if c.kind == 1 {
+    if c.ask.kind == 1 {
         return 0;
     }
     if energy < c.penalty { 0 } else { 12 }
@@ -121,7 +121,7 @@ fn decode_agrees(
     if number != 0 {
         return bytes::same_plan(&plan, &[bytes::PATTERN; 8]);
     }
-    if c.kind == 1 {
+    if c.ask.kind == 1 {
         return repair_agrees(weights, c, bits, &plan, p, energy);
     }
     code_agrees(weights, c, bits, &plan, p)
@@ -137,7 +137,7 @@ pub fn compare(
 ) -> u64 {
     let energy = rows::energy_of(weights, c, bits);
     let number = calls::number_of(c, c.meters, c.flaw);
-    let answer = plans::energy(image, c.kind, c.parameter, bytes::front(bits, c.lent_bits));
+    let answer = plans::energy(image, c.ask, bytes::front(bits, c.lent_bits));
     counts::called(
         counts,
         counts::ENERGIES,

@@ -1,13 +1,13 @@
 // Cases, and what the library's calls answer for them.
 use crate::bytes;
+use plans::Ask;
 use plans::Decoded;
 use plans::Number;
 
-// A kind with its parameter for one site, and what is lent to the calls.
+// What is asked for one site, and what is lent to the calls.
 pub struct Case {
     pub meters: usize,
-    pub kind: u64,
-    pub parameter: u64,
+    pub ask: Ask,
     // the parameter for the reference, 0 where it is refused
     pub size: usize,
     // the bit count and the penalty, as the reference says
@@ -22,6 +22,11 @@ pub struct Case {
     pub flaw: u64,
     // whether every assignment is compared
     pub small: bool,
+}
+
+// What asks for a kind with a parameter.
+pub fn asks(kind: u64, parameter: u64) -> Ask {
+    Ask { kind, parameter }
 }
 
 // A refusal's number, or 0 and what there is of a plan beside its bytes.
@@ -99,12 +104,12 @@ pub fn number_of(c: Case, plan: usize, later: u64) -> u64 {
 pub fn decode(image: &[u8], c: Case, bits: &[u8], plan: &mut [u8]) -> Plan {
     let n = bytes::room(c.lent_plan, plan.len());
     let lent = bytes::front(bits, c.lent_bits);
-    plan_of(plans::decode(image, c.kind, c.parameter, lent, &mut plan[..n]))
+    plan_of(plans::decode(image, c.ask, lent, &mut plan[..n]))
 }
 
 // Codes the bytes of a plan that are lent into the bits that are lent.
 pub fn encode(image: &[u8], c: Case, plan: &[u8], bits: &mut [u8]) -> u64 {
     let n = bytes::room(c.lent_bits, bits.len());
     let lent = bytes::front(plan, c.lent_plan);
-    plans::encode(image, c.kind, c.parameter, lent, &mut bits[..n])
+    plans::encode(image, c.ask, lent, &mut bits[..n])
 }

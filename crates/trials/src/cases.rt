@@ -1,10 +1,12 @@
 // The cases of a site. One with few bits is compared at every assignment, a larger one at the codes of all plans, these with one bit flipped, and random assignments.
 use crate::assignments;
 use crate::assignments::Least;
+use crate::calls;
 use crate::calls::Case;
 use crate::counts;
 use crate::lists;
 use crate::rows;
+use plans::Ask;
 
 // The refusal of image and kind, or 0. No small site has more than 8,192 bits, so 8 never applies; large.rt has those that have.
 fn refusal(valid: bool, allowed: bool) -> u64 {
@@ -14,25 +16,17 @@ fn refusal(valid: bool, allowed: bool) -> u64 {
     if allowed { 0 } else { 7 }
 }
 
-// The case of a kind and a parameter, with what it needs lent; small where it has at most so many bits.
-pub fn case_of(
-    weights: &[u16; 2500],
-    meters: usize,
-    kind: u64,
-    parameter: u64,
-    valid: bool,
-    most: usize,
-) -> Case {
-    let allowed = reference::allows(kind, parameter, meters);
-    let size = if allowed { parameter as usize } else { 0 };
-    let bits = reference::bit_count(weights, meters, kind, size);
+// The case of what is asked for, with what it needs lent; small where it has at most so many bits.
+pub fn case_of(weights: &[u16; 2500], meters: usize, ask: Ask, valid: bool, most: usize) -> Case {
+    let allowed = reference::allows(ask.kind, ask.parameter, meters);
+    let size = if allowed { ask.parameter as usize } else { 0 };
+    let bits = reference::bit_count(weights, meters, ask.kind, size);
     Case {
         meters,
-        kind,
-        parameter,
+        ask,
         size,
         bits,
-        penalty: reference::penalty(weights, meters, kind),
+        penalty: reference::penalty(weights, ask.kind),
         refusal: refusal(valid, allowed),
         lent_bits: bits,
         lent_plan: meters,
@@ -52,7 +46,7 @@ fn is_chosen(c: Case) -> bool {
     if c.meters < 3 {
         return false;
     }
-    if c.kind == 2 {
+    if c.ask.kind == 2 {
         return c.size <= 5;
     }
     c.size <= 4
@@ -69,7 +63,7 @@ fn least_agrees(c: Case, all: Least, plans: Least) -> bool {
     if all.count != plans.count {
         return false;
     }
-    if c.kind == 1 {
+    if c.ask.kind == 1 {
         true
     } else {
         all.below == plans.below
@@ -78,7 +72,7 @@ fn least_agrees(c: Case, all: Least, plans: Least) -> bool {
 
 // Whether the least energy of the codes of trees is the weight of the best spanning tree, and there is a code just where there is such a tree.
 fn tree_agrees(weights: &[u16; 2500], c: Case, plans: Least) -> bool {
-    if c.kind != 3 {
+    if c.ask.kind != 3 {
         return true;
     }
     let best = reference::best_tree(weights, c.meters, c.size);
@@ -112,7 +106,7 @@ pub fn compare_cases(
 ) {
     let mut k: u64 = 0;
     while k < 256 {
-        let c = case_of(weights, meters, k / 64, k % 64, true, most);
+        let c = case_of(weights, meters, calls::asks(k / 64, k % 64), true, most);
         rows::compare_table(image, weights, c, counts);
         if is_chosen(c) {
             compare_case(image, weights, c, counts);

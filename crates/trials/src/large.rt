@@ -4,6 +4,7 @@ use crate::counts;
 use crate::edits;
 use crate::edits::Edit;
 use crate::matrix;
+use plans::Ask;
 
 // How many edits are made of each site.
 const EDITS: usize = 4000;
@@ -36,18 +37,11 @@ fn refusal(allowed: bool, bits: usize) -> u64 {
     if MOST_BITS < bits { 8 } else { 0 }
 }
 
-// The bit count of a kind with its parameter, or its refusal.
-fn compare_count(
-    image: &[u8; 2064],
-    meters: usize,
-    links: u64,
-    kind: u64,
-    parameter: u64,
-    counts: &mut [u64; 66],
-) {
-    let bits = reference::bits_of(meters, links, kind, parameter as usize);
-    let number = refusal(reference::allows(kind, parameter, meters), bits);
-    let answer = plans::bit_count(image, kind, parameter);
+// The bit count of what is asked for, or its refusal.
+fn compare_count(image: &[u8; 2064], meters: usize, links: u64, ask: Ask, counts: &mut [u64; 66]) {
+    let bits = reference::bits_of(meters, links, ask.kind, ask.parameter as usize);
+    let number = refusal(reference::allows(ask.kind, ask.parameter, meters), bits);
+    let answer = plans::bit_count(image, ask);
     counts::called(
         counts,
         counts::TABLES,
@@ -60,7 +54,7 @@ fn compare_count(
 fn compare_counts(image: &[u8; 2064], meters: usize, links: u64, counts: &mut [u64; 66]) {
     let mut k: u64 = 0;
     while k < 256 {
-        compare_count(image, meters, links, k / 64, k % 64, counts);
+        compare_count(image, meters, links, calls::asks(k / 64, k % 64), counts);
         k += 1;
     }
 }

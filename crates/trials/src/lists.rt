@@ -8,8 +8,8 @@ use crate::counts;
 
 // Fills the bits with the code of a list, as the reference says; whether the list is a plan.
 pub fn code_of(weights: &[u16; 2500], c: Case, list: &[u8; 8], code: &mut [u8; 128]) -> bool {
-    reference::code(weights, c.meters, c.kind, c.size, list, code);
-    reference::is_plan(weights, c.meters, c.kind, c.size, list)
+    reference::code(weights, c.meters, c.ask.kind, c.size, list, code);
+    reference::is_plan(weights, c.meters, c.ask.kind, c.size, list)
 }
 
 // Whether encode gives the code, or the refusal's number and leaves the bits unaltered.
@@ -37,7 +37,7 @@ fn back_agrees(image: &[u8], c: Case, list: &[u8; 8], code: &[u8; 128], weight: 
 
 // Whether the energy of a plan's code is its weight, of groups twice that.
 fn energy_agrees(c: Case, weight: u64, energy: u64) -> bool {
-    if c.kind == 2 {
+    if c.ask.kind == 2 {
         energy == std::num::wrapping_add_u64(weight, weight)
     } else {
         energy == weight
@@ -53,7 +53,7 @@ fn compare_code(
     code: &[u8; 128],
     counts: &mut [u64; 66],
 ) -> u64 {
-    let weight = reference::weight(weights, c.meters, c.kind, list);
+    let weight = reference::weight(weights, c.meters, c.ask.kind, list);
     let energy = assignments::compare(image, weights, c, code, counts);
     counts::compared(counts, counts::CODES, energy_agrees(c, weight, energy));
     counts::compared(
@@ -92,7 +92,7 @@ pub fn compare_list(
 
 // The lists are over 0 to one above the greatest number that a plan has: a parent is a meter, another number at most the parameter.
 fn base(c: Case) -> usize {
-    let top = if c.kind == 3 { c.meters } else { c.size };
+    let top = if c.ask.kind == 3 { c.meters } else { c.size };
     std::num::wrapping_add_usize(top, 2)
 }
 

@@ -13,7 +13,7 @@ const NO_BIT: usize = 127;
 // The energy of an assignment, of as many bits as there are.
 pub fn energy_of(weights: &[u16; 2500], c: Case, bits: &[u8]) -> u64 {
     let front = bytes::front(bits, c.bits);
-    reference::energy(weights, c.meters, c.kind, c.size, front)
+    reference::energy(weights, c.meters, c.ask.kind, c.size, front)
 }
 
 // The energy of the assignment in which just i and j are set, which may be the same bit, or no bit.
@@ -104,7 +104,7 @@ fn refused(i: u64, lent: usize, number: u64) -> Asked {
 // Whether row gives back just these numbers.
 fn part_agrees(image: &[u8], c: Case, a: Asked, out: &mut [i64], part: &[i64]) -> bool {
     let n = bytes::room(a.lent, out.len());
-    let given = plans::row(image, c.kind, c.parameter, a.i, &mut out[..n]);
+    let given = plans::row(image, c.ask, a.i, &mut out[..n]);
     bytes::same_numbers(&given[..], part)
 }
 
@@ -122,13 +122,13 @@ fn row_agrees(image: &[u8], c: Case, a: Asked, expected: &[i64; 160]) -> bool {
 // What fill_row returns.
 fn filled(image: &[u8], c: Case, a: Asked, out: &mut [i64]) -> u64 {
     let n = bytes::room(a.lent, out.len());
-    plans::fill_row(image, c.kind, c.parameter, a.i, &mut out[..n])
+    plans::fill_row(image, c.ask, a.i, &mut out[..n])
 }
 
 // Whether fill_row and row_refusal return the number, and leave what is expected.
 fn fill_agrees(image: &[u8], c: Case, a: Asked, expected: &[i64; 160]) -> bool {
     let front = bytes::front_numbers(expected, a.lent);
-    if plans::row_refusal(image, c.kind, c.parameter, a.i, front) != a.number {
+    if plans::row_refusal(image, c.ask, a.i, front) != a.number {
         return false;
     }
     let mut out = [bytes::NUMBER_PATTERN; 160];
@@ -174,15 +174,15 @@ pub fn compare_rows(image: &[u8], weights: &[u16; 2500], c: Case, counts: &mut [
 
 // Whether bit count, penalty and constant are as they should be, or refused with the number.
 fn table_agrees(image: &[u8], c: Case, none: u64) -> bool {
-    let bits = plans::bit_count(image, c.kind, c.parameter);
+    let bits = plans::bit_count(image, c.ask);
     if !calls::is_value(bits, c.refusal, c.bits as u64) {
         return false;
     }
-    let penalty = plans::penalty(image, c.kind, c.parameter);
+    let penalty = plans::penalty(image, c.ask);
     if !calls::is_value(penalty, c.refusal, c.penalty) {
         return false;
     }
-    let constant = plans::constant(image, c.kind, c.parameter);
+    let constant = plans::constant(image, c.ask);
     calls::is_value(constant, c.refusal, none)
 }
 

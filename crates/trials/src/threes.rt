@@ -1,4 +1,5 @@
 // Trees of three meters, with each set of their three links, at every assignment: few random sites have a tree and a table that is small enough for that.
+use crate::calls;
 use crate::cases;
 use crate::counts;
 use crate::edits;
@@ -29,9 +30,9 @@ fn put(
 
 // The trees of a site with at most one neighbour, and with at most two.
 fn compare_limits(image: &[u8; 2064], weights: &[u16; 2500], counts: &mut [u64; 66]) {
-    let one = cases::case_of(weights, 3, 3, 1, true, 18);
+    let one = cases::case_of(weights, 3, calls::asks(3, 1), true, 18);
     cases::compare_case(image, weights, one, counts);
-    let two = cases::case_of(weights, 3, 3, 2, true, 18);
+    let two = cases::case_of(weights, 3, calls::asks(3, 2), true, 18);
     cases::compare_case(image, weights, two, counts);
 }
 

@@ -15,7 +15,7 @@ cast-result : tie.Need-cast-result
 cast-result c = omega (arith, mul-le-mul (c .pre .1) (c .pre .0))
 
 returns : tie.Need-returns
-returns c ls = toZ-pos w64 {n = c .args .penalty * c .args .meters} (omega (arith, mul-le-mul (c .pre .1) (c .pre .0))) ∙ sym (constant-is (c .args .penalty) (c .args .meters) (c .args .n) ls)
+returns c n ls = toZ-pos w64 {n = c .args .penalty * c .args .meters} (omega (arith, mul-le-mul (c .pre .1) (c .pre .0))) ∙ sym (constant-is (c .args .penalty) (c .args .meters) n ls)
 
 pub constant-spec : {M : Type 1} → statement M
 constant-spec = tie.close (tie.spec mul-sum cast-result returns)

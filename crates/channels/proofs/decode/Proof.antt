@@ -10,7 +10,7 @@ repair-all-requires c κs = c .before .before .before .before .before .before .p
 alike-weight-requires : tie.Need-alike-weight-requires
 alike-weight-requires c κs =
     let s = c .before .before .before .before .before .before .before .before .before .before in
-    (s .pre .0 .arrays, c .before .before .before .repair-all .kept .1 .1 .1 .1 .1 .1 .0 ∙ s .pre .2)
+    rw (c .before .before .before .repair-all .kept .1 .1 .1 .1 .1 .1 .0 ∙ s .pre .2) (s .pre .0 .arrays)
 
 repaired-count-requires : tie.Need-repaired-count-requires
 repaired-count-requires c κs =

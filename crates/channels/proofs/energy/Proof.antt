@@ -15,7 +15,7 @@ misses-of-requires c κs =
 clashing-requires : tie.Need-clashing-requires
 clashing-requires c κs =
     let s = c .before .before .before .before .before in
-    (s .pre .0, s .pre .2)
+    (_, s .pre .0, s .pre .2)
 
 mul-sum : tie.Need-mul-sum
 mul-sum c =

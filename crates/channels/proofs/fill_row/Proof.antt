@@ -27,15 +27,16 @@ slice-aggregate-row-into c = sym (front-length _ _ _ (c .before .before .before 
 row-into-requires : tie.Need-row-into-requires
 row-into-requires c κs =
     let p = c .before .before .before .before .pre in
-    (p .0, p .1, front-top _ _ _ (p .3) (p .2), p .2)
+    (_, p .0, p .1, front-top _ _ _ (p .3) (p .2), p .2)
 
 same-length : tie.Need-same-length
 same-length c = search needs
 
 returns : tie.Need-returns
 returns c =
-    let a = c .before .before .before .before .before .before .args in
-    ap (λ (r : List ℤ). r ++ drop (a .meters * a .n - a .i) (a .out .now)) (c .before .row-into .ensures)
+    let s = c .before .before .before .before .before .before in
+    let a = s .args in
+    ap (λ (r : List ℤ). r ++ drop (a .meters * a .n - a .i) (a .out .now)) (c .before .row-into .ensures (a .meters) (front-top _ _ _ (s .pre .3) (s .pre .2)))
 
 pub fill-row-spec : {M : Type 1} → statement M
 fill-row-spec =

@@ -2,7 +2,7 @@ use mathlib.Core.Path.{refl}
 use native.Mathlib.Omega.{arith}
 use borrow.Author.Needs.{needs}
 use Rattle.lists.proofs.Stores.{zero-entries}
-use Rattle.channels.proofs.Load.{penalty-small}
+use Rattle.channels.proofs.Asking.{penalty-small}
 use Rattle.channels.proofs.Gathering.{penalty-is}
 use Rattle.channels.proofs.penalty_of.Statement.{statement}
 use Rattle.channels.proofs.penalty_of.Tie as tie
@@ -11,7 +11,7 @@ slice-aggregate-gather : tie.Need-slice-aggregate-gather
 slice-aggregate-gather c = search needs
 
 gather-requires : tie.Need-gather-requires
-gather-requires c κs = (c .before .before .before .before .pre, refl, zero-entries 256)
+gather-requires c κs = (_, c .before .before .before .before .pre, refl, zero-entries 256)
 
 slice-aggregate-greatest-load : tie.Need-slice-aggregate-greatest-load
 slice-aggregate-greatest-load c = search needs

@@ -15,7 +15,7 @@ bracket-of-requires c κs =
 cutting-requires : tie.Need-cutting-requires
 cutting-requires c κs =
     let s = c .before .before .before .before .before in
-    (s .pre .0, s .pre .2)
+    (_, s .pre .0, s .pre .2)
 
 mul-sum : tie.Need-mul-sum
 mul-sum c =

@@ -18,16 +18,16 @@ cast-add-one-hot : tie.Need-cast-add-one-hot
 cast-add-one-hot c =
     let a = c .before .args in
     let p = c .before .pre in
-    omega (arith, own-small (a .penalty) (a .meters) (a .n) (a .i) (a .row .now) (p .0) (p .1) (p .4))
+    omega (arith, own-small (a .penalty) (p .0) (a .n) (a .i) (a .row .now) (p .1) (p .2) (p .5))
 
 add-one-hot-requires : tie.Need-add-one-hot-requires
 add-one-hot-requires c κs =
     let s = c .before in
     let p = s .pre in
     let a = s .args in (
-      own-below (a .penalty) (a .meters) (a .n) (a .i) (a .row .now) (p .0) (p .1) (p .2) (p .3),
-      rw (toZ-pos w64 {n = a .penalty} (omega (arith, own-small (a .penalty) (a .meters) (a .n) (a .i) (a .row .now) (p .0) (p .1) (p .4))))
-          (own-room (a .penalty) (a .meters) (a .n) (a .i) (a .row .now) (p .0) (p .1) _ (p .4)),
+      own-below (a .penalty) (p .0) (a .n) (a .i) (a .row .now) (p .1) (p .2) (p .3) (p .4),
+      rw (toZ-pos w64 {n = a .penalty} (omega (arith, own-small (a .penalty) (p .0) (a .n) (a .i) (a .row .now) (p .1) (p .2) (p .5))))
+          (own-room (a .penalty) (p .0) (a .n) (a .i) (a .row .now) (p .1) (p .2) _ (p .5)),
     )
 
 same-length : tie.Need-same-length
@@ -37,7 +37,8 @@ returns : tie.Need-returns
 returns c =
     let s = c .before .before .before in
     let a = s .args in
-    c .before .add-one-hot .ensures ∙ rw (toZ-pos w64 {n = a .penalty} (omega (arith, own-small (a .penalty) (a .meters) (a .n) (a .i) (a .row .now) (s .pre .0) (s .pre .1) (s .pre .4)))) (sym (own-added (a .penalty) (a .meters) (a .n) (a .i) (a .row .now) (s .pre .0) (s .pre .1)))
+    let p = s .pre in
+    λ N h. c .before .add-one-hot .ensures ∙ rw (toZ-pos w64 {n = a .penalty} (omega (arith, own-small (a .penalty) (p .0) (a .n) (a .i) (a .row .now) (p .1) (p .2) (p .5)))) (sym (own-added (a .penalty) N (a .n) (a .i) (a .row .now) (p .1) h))
 
 pub add-one-hots-spec : {M : Type 1} → statement M
 add-one-hots-spec =

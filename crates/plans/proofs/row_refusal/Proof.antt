@@ -1,6 +1,6 @@
-use mathlib.Core.Path.{refl}
-use Rattle.plans.proofs.Earlier.{row-stops}
-use Rattle.plans.proofs.Posed.{given, withheld, row-number-given}
+use mathlib.Core.Path.{refl, sym}
+use Rattle.plans.proofs.Posed.{given, withheld}
+use Rattle.plans.proofs.Calling.{row-stops, row-number}
 use borrow.Author.Needs.{needs}
 use Rattle.plans.proofs.row_refusal.Statement.{statement}
 use Rattle.plans.proofs.row_refusal.Tie as tie
@@ -14,18 +14,19 @@ enum-known-posed c = search needs
 enum-known-posed-2 : tie.Need-enum-known-posed-2
 enum-known-posed-2 c = search needs
 
-refusal-of-requires : tie.Need-refusal-of-requires
-refusal-of-requires c κs = search needs
+of-row-requires : tie.Need-of-row-requires
+of-row-requires c κs = search needs
 
 returns : tie.Need-returns
 returns c =
     let s = c .before .before .before .before .before in
-    ((refl, refl), row-stops _ _ (withheld (s .args .image .now) (s .args .kind) (s .args .parameter) _ (c .before .before .before .problem-in .ensures) _ (c .before .posed .given .1)) _ _ _ _ (s .args .out .now) .0 .0)
+    ((refl, refl), row-stops _ _ _ (withheld (s .args .image .now) (s .args .ask) _ (c .before .before .before .problem-in .ensures) _ (c .before .posed .given .1)) (s .args .i) (s .args .out .now) .0 .0)
 
 returns-2 : tie.Need-returns-2
 returns-2 c =
     let s = c .before .before .before .before .before .before in
-    ((refl, refl), row-number-given (s .args .image .now) (s .args .kind) (s .args .parameter) _ _ (given (s .args .image .now) (s .args .kind) (s .args .parameter) _ (c .before .before .before .before .problem-in .ensures) _ _ (c .before .before .posed2 .given .1)) _ _ _ (c .refusal-of .ensures))
+    let g = given (s .args .image .now) (s .args .ask) _ (c .before .before .before .before .problem-in .ensures) _ _ _ (c .before .before .posed2 .given .1) in
+    ((refl, refl), sym (row-number _ _ (g .alike) _ (g .is-bits) (s .args .i) _ (s .args .out .now) (c .of-row .ensures)))
 
 pub row-refusal-spec : {M : Type 1} → statement M
 row-refusal-spec =
@@ -34,6 +35,6 @@ row-refusal-spec =
     problem-in-requires
     enum-known-posed
     enum-known-posed-2
-    refusal-of-requires
+    of-row-requires
     returns
     returns-2)

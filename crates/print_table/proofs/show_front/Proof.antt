@@ -4,19 +4,13 @@ use lib.Seq.{length-take-le}
 use borrow.Author.Needs.{needs}
 use Rattle.print_table.proofs.show_front.Statement.{statement}
 use Rattle.print_table.proofs.show_front.Tie as tie
-use Rattle.print_table.proofs.show_front.Reads as reads
-use Rattle.print_table.proofs.show_front.Lts as lts
-use Rattle.print_table.proofs.show.Reads as show-reads
 
--- src/main.rt:132:10
 slice-aggregate-show : tie.Need-slice-aggregate-show
 slice-aggregate-show c = sym (length-take-le 2064 (c .before .before .args .input .now) (omega arith))
 
--- src/main.rt:132:5
 show-requires : tie.Need-show-requires
 show-requires c κs = search needs
 
--- src/main.rt:129:1
 returns : tie.Need-returns
 returns c = search needs
 

@@ -3,24 +3,16 @@ use Rattle.print_table.proofs.Fits.{few-numbers}
 use borrow.Author.Needs.{needs}
 use Rattle.print_table.proofs.show_row.Statement.{statement}
 use Rattle.print_table.proofs.show_row.Tie as tie
-use Rattle.print_table.proofs.show_row.Reads as reads
-use Rattle.print_table.proofs.show_row.Lts as lts
-use Rattle.plans.proofs.row.Reads as row-reads
-use Rattle.print_table.proofs.put_row.Reads as put-row-reads
 
--- src/main.rt:68:9
 row-requires : tie.Need-row-requires
 row-requires c κs = search needs
 
--- src/main.rt:69:5
 put-row-requires : tie.Need-put-row-requires
-put-row-requires c κs = omega (arith, few-numbers _ _ _ _ _ _ (c .before .before .row .ensures .1 .0))
+put-row-requires c κs = omega (arith, few-numbers _ _ _ _ _ (c .before .before .row .ensures .1 .0))
 
--- src/main.rt:56:1
 same-length : tie.Need-same-length
 same-length c = search needs
 
--- src/main.rt:56:1
 returns : tie.Need-returns
 returns c = search needs
 

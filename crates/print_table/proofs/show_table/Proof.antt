@@ -4,10 +4,10 @@ use Rattle.print_table.proofs.show_table.Statement.{statement}
 use Rattle.print_table.proofs.show_table.Tie as tie
 
 abbrev Inv-loop : tie.InvT-loop
-Inv-loop image kind parameter bits constant out₀ places₀ at₀ rows i₀ out places at i = at ≤ 65536
+Inv-loop image ask bits constant out₀ places₀ at₀ rows i₀ out places at i = at ≤ 65536
 
 abbrev μ-loop : tie.MeasureT-loop
-μ-loop image kind parameter bits constant out₀ places₀ at₀ rows i₀ out places at i = rows - i
+μ-loop image ask bits constant out₀ places₀ at₀ rows i₀ out places at i = rows - i
 
 large-buffer-requires : tie.Need-large-buffer-requires Inv-loop μ-loop
 large-buffer-requires c κs = tt

@@ -3,57 +3,51 @@ use mathlib.Core.Path.{sym, _∙_}
 use native.Mathlib.Omega.{arith}
 use mir.Syntax.{w64}
 use mir.Facts.{toZ-pos}
-use Rattle.spanning.specs.Parents.{deepest}
-use Rattle.tree.proofs.Answering.{used-asked, used-here, cost-asked, energy-is, energy-small}
+use Rattle.tree.proofs.Answering.{choices-asked, used-asked, used-here, arcs-asked, cost-asked, energy-is, energy-small}
 use borrow.Author.Needs.{needs}
 use Rattle.tree.proofs.energy_with.Statement.{statement}
 use Rattle.tree.proofs.energy_with.Tie as tie
 
 count-used-requires : tie.Need-count-used-requires
-unfolding deepest
-count-used-requires c κs =
-    let s = c .before .before .before .before .before .before in
-    used-asked _ _ _ _ _ (s .pre .0) _ (s .pre .2) _ (s .pre .3)
+count-used-requires c κs = let p = c .before .before .before .before .before .before .pre in rw (p .1) (used-asked _ _ _ _ _ (p .0) _ (p .3) _ (p .4))
 
 broken-choices-requires : tie.Need-broken-choices-requires
-broken-choices-requires c κs = search needs
+broken-choices-requires c κs = let p = c .before .before .before .before .before .before .before .before .before .pre in rw (p .1) (choices-asked _ _ _ _ _ (p .0) _ (p .3))
 
 broken-arcs-requires : tie.Need-broken-arcs-requires
-unfolding deepest
 broken-arcs-requires c κs =
-    let s = c .before .before .before .before .before .before .before .before .before .before .before in
-    (s .pre .0, s .pre .2, used-here _ _ _ _ _ (s .pre .0) _ (s .pre .2) _ (s .pre .3) _ (c .before .before .before .before .count-used .ensures))
+    let p = c .before .before .before .before .before .before .before .before .before .before .before .pre in
+    rw (p .1) (arcs-asked _ _ _ _ _ (p .0) _ (p .3) _ (used-here _ _ _ _ _ (p .0) _ (p .3) _ (p .4) _ (rw (p .1) at (c .before .before .before .before .count-used .ensures))))
 
 arc-cost-requires : tie.Need-arc-cost-requires
-unfolding deepest
 arc-cost-requires c κs =
-    let s = c .before .before .before .before .before .before .before .before .before .before .before .before .before in
-    cost-asked _ _ _ _ _ (s .pre .0) _ (s .pre .2) _ (used-here _ _ _ _ _ (s .pre .0) _ (s .pre .2) _ (s .pre .3) _ (c .before .before .before .before .before .before .count-used .ensures))
+    let p = c .before .before .before .before .before .before .before .before .before .before .before .before .before .pre in
+    cost-asked _ _ _ _ _ (p .0) _ (p .3) _ (used-here _ _ _ _ _ (p .0) _ (p .3) _ (p .4) _ (rw (p .1) at (c .before .before .before .before .before .before .count-used .ensures)))
 
 add-sum : tie.Need-add-sum
 add-sum c = search needs
 
 mul-sum : tie.Need-mul-sum
-mul-sum c = let s = c .before .before .before .before .before .before .before .before .before .before .before .before .before .before in omega (arith, energy-small _ _ _ _ (s .pre .1) (c .before .before .before .before .broken-choices .ensures .1) (c .before .before .broken-arcs .ensures .1) (c .arc-cost .ensures .1))
+mul-sum c = let p = c .before .before .before .before .before .before .before .before .before .before .before .before .before .before .pre in omega (arith, energy-small _ _ _ _ (p .2) (c .before .before .before .before .broken-choices .ensures .1) (c .before .before .broken-arcs .ensures .1) (c .arc-cost .ensures .1))
 
 add-sum-2 : tie.Need-add-sum-2
-add-sum-2 c = let s = c .before .before .before .before .before .before .before .before .before .before .before .before .before .before in omega (arith, energy-small _ _ _ _ (s .pre .1) (c .before .before .before .before .broken-choices .ensures .1) (c .before .before .broken-arcs .ensures .1) (c .arc-cost .ensures .1))
+add-sum-2 c = let p = c .before .before .before .before .before .before .before .before .before .before .before .before .before .before .pre in omega (arith, energy-small _ _ _ _ (p .2) (c .before .before .before .before .broken-choices .ensures .1) (c .before .before .broken-arcs .ensures .1) (c .arc-cost .ensures .1))
 
 cast-result : tie.Need-cast-result
-cast-result c = let s = c .before .before .before .before .before .before .before .before .before .before .before .before .before .before in omega (arith, energy-small _ _ _ _ (s .pre .1) (c .before .before .before .before .broken-choices .ensures .1) (c .before .before .broken-arcs .ensures .1) (c .arc-cost .ensures .1))
+cast-result c = let p = c .before .before .before .before .before .before .before .before .before .before .before .before .before .before .pre in omega (arith, energy-small _ _ _ _ (p .2) (c .before .before .before .before .broken-choices .ensures .1) (c .before .before .broken-arcs .ensures .1) (c .arc-cost .ensures .1))
 
 same-length : tie.Need-same-length
 same-length c = search needs
 
 returns : tie.Need-returns
-unfolding deepest
 returns c =
     let s = c .before .before .before .before .before .before .before .before .before .before .before .before .before .before in
+    let p = s .pre in
     let k = c .before .before .before .before .broken-choices in
     let h = c .before .before .broken-arcs in
-    let u = used-here _ _ _ _ _ (s .pre .0) _ (s .pre .2) _ (s .pre .3) _ (c .before .before .before .before .before .before .before .count-used .ensures) in
-    toZ-pos w64 {n = s .args .penalty * (k .result + h .result) + c .arc-cost .result} (omega (arith, energy-small _ _ _ _ (s .pre .1) (c .before .before .before .before .broken-choices .ensures .1) (c .before .before .broken-arcs .ensures .1) (c .arc-cost .ensures .1)))
-    ∙ energy-is _ _ _ _ _ (s .pre .0) _ (s .pre .2) _ _ _ _ (k .ensures .0) (h .ensures .0) (c .arc-cost .ensures .0 _ _ _ _ _ (sym (s .pre .0 .arrays .same-w)) u)
+    let u = used-here _ _ _ _ _ (p .0) _ (p .3) _ (p .4) _ (rw (p .1) at (c .before .before .before .before .before .before .before .count-used .ensures)) in
+    toZ-pos w64 {n = s .args .penalty * (k .result + h .result) + c .arc-cost .result} (omega (arith, energy-small _ _ _ _ (p .2) (k .ensures .1) (h .ensures .1) (c .arc-cost .ensures .1)))
+    ∙ energy-is _ _ _ _ _ (p .0) _ (p .3) _ _ _ _ (rw (p .1) at (k .ensures .0)) (rw (p .1) at (h .ensures .0 (s .args .ws .now))) (c .arc-cost .ensures .0 _ _ _ _ _ (sym (p .0 .arrays .same-w)) u)
 
 pub energy-with-spec : {M : Type 1} → statement M
 energy-with-spec =

@@ -46,7 +46,7 @@ add-pair-requires c κs =
     let q = toZ-ofZ (s .fits .q) in
     let small = held-abs _ _ _ _ _ _ _ _ (s .pre .6) in
     let first = rw (a, opposite-is (pos (s .args .penalty)) (omega (arith, s .pre .0 .penalty))) at (c .before .before .add-single .ensures) in
-    let d = c .before .before .before .before .depth-bit .ensures in (
+    let d = c .before .before .before .before .depth-bit .ensures .0 in (
       omega (arith, s .pre .0 .own, c .before .before .add-single .kept),
       rw d (omega (arith, s .pre .0 .inside, c .before .before .add-single .kept, depth-below _ _ _ _ (s .pre .2) (s .pre .3) (s .pre .5))),
       rw (q, d) (depth-room _ _ _ _ _ _ _ _ _ _ (s .pre .0) (s .pre .1 .few) (s .pre .6) _ first),
@@ -59,7 +59,7 @@ add-arcs-requires c κs =
     let q = toZ-ofZ (s .fits .q) in
     let small = held-abs _ _ _ _ _ _ _ _ (s .pre .6) in
     let first = rw (a, opposite-is (pos (s .args .penalty)) (omega (arith, s .pre .0 .penalty))) at (c .before .before .before .before .before .add-single .ensures) in
-    let second = rw (q, c .before .before .before .before .before .before .before .depth-bit .ensures) at (c .before .before .add-pair .ensures) in (
+    let second = rw (q, c .before .before .before .before .before .before .before .depth-bit .ensures .0) at (c .before .before .add-pair .ensures) in (
       walk-on _ _ _ _ _ _ _ (omega (arith, c .before .before .before .before .before .add-single .kept, c .before .before .add-pair .kept)) (s .pre .1),
       s .pre .4,
       s .pre .5,
@@ -79,7 +79,7 @@ returns c =
     let q = toZ-ofZ (s .fits .q) in
     let small = held-abs _ _ _ _ _ _ _ _ (s .pre .6) in
     let first = rw (a, opposite-is (pos (s .args .penalty)) (omega (arith, s .pre .0 .penalty))) at (c .before .before .before .before .before .before .before .add-single .ensures) in
-    let second = rw (q, c .before .before .before .before .before .before .before .before .before .depth-bit .ensures) at (c .before .before .before .before .add-pair .ensures) in
+    let second = rw (q, c .before .before .before .before .before .before .before .before .before .depth-bit .ensures .0) at (c .before .before .before .before .add-pair .ensures) in
     let third = rw (q, opposite-is (s .args .q) (omega (arith, s .pre .0 .penalty))) at (c .before .add-arcs .ensures) in
     entry-done _ _ _ _ _ _ _ _ (s .pre .6) _ _ _ _ first second third
 

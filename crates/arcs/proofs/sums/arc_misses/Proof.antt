@@ -10,11 +10,8 @@ arc-start-requires c κs = search needs
 depth-start-requires : tie.Need-depth-start-requires
 depth-start-requires c κs = search needs
 
-depth-start-requires-2 : tie.Need-depth-start-requires-2
-depth-start-requires-2 c κs = search needs
-
-add-below : tie.Need-add-below
-add-below c = search needs
+depth-bit-requires : tie.Need-depth-bit-requires
+depth-bit-requires c κs = search needs
 
 add-part-misses : tie.Need-add-part-misses
 add-part-misses c = search needs
@@ -42,7 +39,7 @@ part-part-misses-end-2 c =
     let s = c .before .before .before .before .before in
     let a = c .before .before .before .arc-start in
     let p = c .before .before .depth-start in
-    let b = c .before .depth-start2 in
+    let b = c .before .depth-bit in
     omega (arith, above-fits (s .args .meters) (s .args .deepest) (s .args .number) (s .args .parent) (s .args .child) (s .args .bits .now) (a .result) (p .result) (b .result) (a .ensures .0) (p .ensures .0) (b .ensures .0) (s .pre .3) (s .pre .4) (s .pre .5) (s .pre .6) (s .pre .8))
 
 add-part-misses-3 : tie.Need-add-part-misses-3
@@ -59,7 +56,7 @@ part-part-misses-end-3 c =
     let s = c .before .before .before .before .before .before in
     let a = c .before .before .before .before .arc-start in
     let p = c .before .before .before .depth-start in
-    let b = c .before .before .depth-start2 in
+    let b = c .before .before .depth-bit in
     omega (arith, below-fits (s .args .meters) (s .args .deepest) (s .args .number) (s .args .parent) (s .args .child) (s .args .bits .now) (a .result) (p .result) (b .result) (a .ensures .0) (p .ensures .0) (b .ensures .0) (s .pre .3) (s .pre .4) (s .pre .5) (s .pre .6) (s .pre .8))
 
 part-misses-requires : tie.Need-part-misses-requires
@@ -67,7 +64,7 @@ part-misses-requires c κs =
     let s = c .before .before .before .before .before .before .before in
     let a = c .before .before .before .before .before .arc-start in
     let p = c .before .before .before .before .depth-start in
-    let b = c .before .before .before .depth-start2 in
+    let b = c .before .before .before .depth-bit in
     misses-room (s .args .meters) (s .args .deepest) (s .args .number) (s .args .parent) (s .args .child) (s .args .bits .now) (a .result) (p .result) (b .result) (a .ensures .0) (p .ensures .0) (b .ensures .0) (s .pre .3) (s .pre .4) (s .pre .5) (s .pre .6) (s .pre .8) (s .pre .1) (s .pre .7)
 
 returns : tie.Need-returns
@@ -75,7 +72,7 @@ returns c =
     let s = c .before .before .before .before .before .before .before .before in
     let a = c .before .before .before .before .before .before .arc-start in
     let p = c .before .before .before .before .before .depth-start in
-    let b = c .before .before .before .before .depth-start2 in
+    let b = c .before .before .before .before .depth-bit in
     (arc-misses-is (s .args .meters) (s .args .deepest) (s .args .number) (s .args .parent) (s .args .child) (s .args .bits .now) (a .result) (p .result) (b .result) (a .ensures .0) (p .ensures .0) (b .ensures .0) (s .pre .3) (s .pre .4) (s .pre .5) (s .pre .6) (s .pre .8) (c .part-misses .result) (c .part-misses .ensures .0), c .part-misses .ensures .1)
 
 pub arc-misses-spec : {M : Type 1} → statement M
@@ -84,8 +81,7 @@ arc-misses-spec =
     (tie.spec
     arc-start-requires
     depth-start-requires
-    depth-start-requires-2
-    add-below
+    depth-bit-requires
     add-part-misses
     sub-part-misses
     part-part-misses-start

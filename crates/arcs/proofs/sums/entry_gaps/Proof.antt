@@ -12,23 +12,23 @@ slice-aggregate-gather-entries c = search needs
 
 gather-entries-requires : tie.Need-gather-entries-requires
 gather-entries-requires c κs =
-    let s = c .before .before .before .before .before .before in
-    (s .pre .0, s .pre .1, s .pre .2, refl, zero-entries 1200, s .pre .3)
+    let s = c .before .before .before .before .before in
+    (s .pre .0, s .pre .1, s .pre .2, s .pre .3, refl, zero-entries 1200, s .pre .4)
 
 slice-aggregate-meter-gaps : tie.Need-slice-aggregate-meter-gaps
 slice-aggregate-meter-gaps c = search needs
 
 meter-gaps-requires : tie.Need-meter-gaps-requires
 meter-gaps-requires c κs =
-    let s = c .before .before .before .before .before .before .before .before .before in
+    let s = c .before .before .before .before .before .before .before .before in
     let g = c .before .before .gather-entries in
-    (s .pre .0 .arrays .survey .meters-high, s .pre .0 .deep, s .pre .1, omega (arith, s .pre .2), g .ensures .0, counts-small (s .args .meters) (s .args .deepest) (linksOf (s .args .us .now) (s .args .vs .now) (s .args .ws .now)) (s .args .bits .now) (g .last .0) (g .ensures .1) (s .pre .0 .arrays .survey) (s .pre .1))
+    (s .pre .0 .arrays .survey .meters-high, s .pre .1, s .pre .2, omega (arith, s .pre .3), g .ensures .0, counts-small (s .args .meters) (s .args .deepest) (linksOf (s .args .us .now) (s .args .vs .now) (s .pre .0 .weights)) (s .args .bits .now) (g .last .0) (g .ensures .1 (s .pre .0 .weights)) (s .pre .0 .arrays .survey) (s .pre .2))
 
 returns : tie.Need-returns
 returns c =
-    let s = c .before .before .before .before .before .before .before .before .before .before in
+    let s = c .before .before .before .before .before .before .before .before .before in
     let g = c .before .before .before .gather-entries in
-    (entry-gaps-is (s .args .meters) (s .args .deepest) (linksOf (s .args .us .now) (s .args .vs .now) (s .args .ws .now)) (s .args .bits .now) (g .last .0) (g .ensures .1) (c .meter-gaps .result) (c .meter-gaps .ensures .0), c .meter-gaps .ensures .1)
+    (λ ws. entry-gaps-is (s .args .meters) (s .args .deepest) (linksOf (s .args .us .now) (s .args .vs .now) ws) (s .args .bits .now) (g .last .0) (g .ensures .1 ws) (c .meter-gaps .result) (c .meter-gaps .ensures .0), c .meter-gaps .ensures .1)
 
 pub entry-gaps-spec : {M : Type 1} → statement M
 entry-gaps-spec =

@@ -11,10 +11,10 @@ use Rattle.channels.proofs.clashes.clashing.Statement.{statement}
 use Rattle.channels.proofs.clashes.clashing.Tie as tie
 
 abbrev Inv-loop : tie.InvT-loop
-Inv-loop bits us vs ws meters n sum₀ k₀ sum k = Summed us vs ws (bitsLink _*_ n bits) k sum
+Inv-loop bits us vs ws n sum₀ k₀ sum k = Summed us vs ws (bitsLink _*_ n bits) k sum
 
 abbrev μ-loop : tie.MeasureT-loop
-μ-loop bits us vs ws meters n sum₀ k₀ sum k = length us - k
+μ-loop bits us vs ws n sum₀ k₀ sum k = length us - k
 
 loop-holds : tie.Need-loop-holds Inv-loop μ-loop
 loop-holds c = summed-start _ _ _ _
@@ -23,33 +23,33 @@ shared-slice-read-shared : tie.Need-shared-slice-read-shared Inv-loop μ-loop
 shared-slice-read-shared c = omega arith
 
 shared-slice-read-shared-2 : tie.Need-shared-slice-read-shared-2 Inv-loop μ-loop
-shared-slice-read-shared-2 c = omega (arith, c .before .before .before .before .before .before .before .before .pre .0 .arrays .same-v)
+shared-slice-read-shared-2 c = omega (arith, c .before .before .before .before .before .before .before .before .pre .1 .arrays .same-v)
 
 shared-requires : tie.Need-shared-requires Inv-loop μ-loop
 shared-requires c κs =
     let s = c .before .before .before .before .before .before .before .before in
-    ends-fit _ _ _ _ _ _ (s .pre .0) (s .pre .1) _ (omega arith)
+    ends-fit _ _ _ _ _ _ (s .pre .1) (s .pre .2) _ (omega arith)
 
 mul-sum : tie.Need-mul-sum Inv-loop μ-loop
 mul-sum c = omega arith
 
 shared-slice-read-sum : tie.Need-shared-slice-read-sum Inv-loop μ-loop
-shared-slice-read-sum c = omega (arith, c .before .before .before .before .before .before .before .before .before .before .pre .0 .arrays .same-w)
+shared-slice-read-sum c = omega (arith, c .before .before .before .before .before .before .before .before .before .before .pre .1 .arrays .same-w)
 
 cast-sum : tie.Need-cast-sum Inv-loop μ-loop
-cast-sum c = omega (arith, link-at _ _ _ _ (c .before .before .before .before .before .before .before .before .before .before .pre .0 .arrays) (c .before .before .before .before .before .loop .k) (omega arith))
+cast-sum c = omega (arith, link-at _ _ _ _ (c .before .before .before .before .before .before .before .before .before .before .pre .1 .arrays) (c .before .before .before .before .before .loop .k) (omega arith))
 
 mul-sum-2 : tie.Need-mul-sum-2 Inv-loop μ-loop
 mul-sum-2 c =
     let l = c .before .before .before .before .before .loop in
     let s = c .before .before .before .before .before .before .before .before .before .before in
-    omega (arith, bits-room _*_ _ _ _ _ _ _ _ (c .before .shared .ensures) (both-bits _ _ (s .pre .1 .bits)) _ _ (s .pre .0) (l .inv) (omega arith))
+    omega (arith, bits-room _*_ _ _ _ _ _ _ _ (c .before .shared .ensures) (both-bits _ _ (s .pre .2 .bits)) _ _ (s .pre .1) (l .inv) (omega arith))
 
 add-sum : tie.Need-add-sum Inv-loop μ-loop
 add-sum c =
     let l = c .before .before .before .before .before .loop in
     let s = c .before .before .before .before .before .before .before .before .before .before in
-    omega (arith, bits-room _*_ _ _ _ _ _ _ _ (c .before .shared .ensures) (both-bits _ _ (s .pre .1 .bits)) _ _ (s .pre .0) (l .inv) (omega arith))
+    omega (arith, bits-room _*_ _ _ _ _ _ _ _ (c .before .shared .ensures) (both-bits _ _ (s .pre .2 .bits)) _ _ (s .pre .1) (l .inv) (omega arith))
 
 add-k : tie.Need-add-k Inv-loop μ-loop
 add-k c = omega arith
@@ -65,7 +65,7 @@ returns : tie.Need-returns Inv-loop μ-loop
 returns c =
     let s = c .before .before .before .before .before .before in
     let e = summed-end _ _ _ _ _ _ (c .before .loop .inv) (omega arith) in
-    (e ∙ clashing-sum _ _ _, rw e (bits-small _*_ _ _ (both-bits _ _ (s .pre .1 .bits)) (s .pre .0 .high) _ _ (s .pre .0 .arrays .survey)))
+    (e ∙ clashing-sum _ _ _, rw e (bits-small _*_ _ _ (both-bits _ _ (s .pre .2 .bits)) (s .pre .1 .high) _ _ (s .pre .1 .arrays .survey)))
 
 pub clashing-spec : {M : Type 1} → statement M
 clashing-spec =

@@ -56,7 +56,7 @@ add-repair-meter c = omega arith
 repair-meter-requires : tie.Need-repair-meter-requires Inv-loop μ-loop
 repair-meter-requires c κs =
     let s = c .before .before .before .before .before .before .before .before .before in
-    ((s .pre .0, s .pre .1), (part-is (s .args .n) (c .before .before .before .loop .v) (s .args .bits .now), omega arith, omega arith))
+    (_, s .pre .0, s .pre .1, part-is (s .args .n) (c .before .before .before .loop .v) (s .args .bits .now), omega arith, omega arith)
 
 cast-plan : tie.Need-cast-plan Inv-loop μ-loop
 cast-plan c =

@@ -15,12 +15,12 @@ quietest-at-requires c κs = search needs
 returns : tie.Need-returns
 returns c =
     let s = c .before .before .before .before .before .before .before .before .before in
-    c .quietest-at .ensures ∙ meter-silent (s .args .n) (s .args .meters) (s .args .m) (s .args .bits .now) (s .args .part .now) (c .before .before .lowest-set .result) (s .pre .1 .0) (s .pre .1 .1) (s .pre .1 .2) (s .pre .0 .1 .size) (c .before .before .lowest-set .ensures) (quietest (s .args .n) (linksOf (s .args .us .now) (s .args .vs .now) (s .args .ws .now)) (s .args .bits .now) (s .args .plan .now) (s .args .m)) (c .before .if1 .taken)
+    c .quietest-at .ensures ∙ meter-silent (s .args .n) (s .pre .0) (s .args .m) (s .args .bits .now) (s .args .part .now) (c .before .before .lowest-set .result) (s .pre .3) (s .pre .4) (s .pre .5) (s .pre .2 .size) (c .before .before .lowest-set .ensures) (quietest (s .args .n) (linksOf (s .args .us .now) (s .args .vs .now) (s .args .ws .now)) (s .args .bits .now) (s .args .plan .now) (s .args .m)) (c .before .if1 .taken)
 
 returns-2 : tie.Need-returns-2
 returns-2 c =
     let s = c .before .before .before .before .before .before .before .before in
-    meter-lowest (s .args .n) (s .args .meters) (s .args .m) (s .args .bits .now) (s .args .part .now) (c .before .lowest-set .result) (s .pre .1 .0) (s .pre .1 .1) (s .pre .1 .2) (s .pre .0 .1 .size) (c .before .lowest-set .ensures) (quietest (s .args .n) (linksOf (s .args .us .now) (s .args .vs .now) (s .args .ws .now)) (s .args .bits .now) (s .args .plan .now) (s .args .m)) (c .if1 .left)
+    meter-lowest (s .args .n) (s .pre .0) (s .args .m) (s .args .bits .now) (s .args .part .now) (c .before .lowest-set .result) (s .pre .3) (s .pre .4) (s .pre .5) (s .pre .2 .size) (c .before .lowest-set .ensures) (quietest (s .args .n) (linksOf (s .args .us .now) (s .args .vs .now) (s .args .ws .now)) (s .args .bits .now) (s .args .plan .now) (s .args .m)) (c .if1 .left)
 
 pub repair-meter-spec : {M : Type 1} → statement M
 repair-meter-spec =

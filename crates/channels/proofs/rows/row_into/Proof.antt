@@ -13,14 +13,14 @@ add-one-hots-requires : tie.Need-add-one-hots-requires
 add-one-hots-requires c κs =
     let s = c .before .before .before .before .before .before .before in
     let p = s .pre in
-    let h = hots-ready _ _ _ _ _ _ _ (p .0) (p .1) _ (p .2) _ (c .before .before .clear .ensures) in
-    (p .0 .low, p .3, h .0, omega (arith, bits-few _ _ _ _ _ (p .0)), h .1)
+    let h = hots-ready _ _ _ _ _ _ _ (p .1) (p .2) _ (p .3) _ (c .before .before .clear .ensures) in
+    (_, p .1 .low, p .4, h .0, omega (arith, bits-few _ _ _ _ _ (p .1)), h .1)
 
 add-clashes-requires : tie.Need-add-clashes-requires
 add-clashes-requires c κs =
     let p = c .before .before .before .before .before .before .before .before .before .before .pre in
-    let h = clashes-ready _ _ _ _ _ _ _ (p .0) (p .1) _ (p .2) _ (c .before .before .before .before .before .clear .ensures) _ (c .before .before .add-one-hots .ensures) in
-    ((p .0, h .0, p .3), h .1)
+    let h = clashes-ready _ _ _ _ _ _ _ (p .1) (p .2) _ (p .3) _ (c .before .before .before .before .before .clear .ensures) _ (c .before .before .add-one-hots .ensures _ (p .4)) in
+    ((_, p .1, h .0, p .4), h .1)
 
 same-length : tie.Need-same-length
 same-length c = search needs
@@ -28,7 +28,7 @@ same-length c = search needs
 returns : tie.Need-returns
 returns c =
     let p = c .before .before .before .before .before .before .before .before .before .before .before .before .pre in
-    row-done _ _ _ _ _ _ _ (p .0) (p .1) _ (p .2) _ (c .before .before .before .before .before .before .before .clear .ensures) _ (c .before .before .before .before .add-one-hots .ensures) _ (c .before .add-clashes .ensures)
+    row-done _ _ _ _ _ _ _ (p .1) (p .2) _ (p .3) _ (c .before .before .before .before .before .before .before .clear .ensures) _ (c .before .before .before .before .add-one-hots .ensures _ (p .4)) _ (c .before .add-clashes .ensures)
 
 pub row-into-spec : {M : Type 1} → statement M
 row-into-spec =

@@ -6,7 +6,7 @@ use Rattle.channels.proofs.silent.gather_heard.Tie as tie
 
 first-link-requires : tie.Need-first-link-requires
 first-link-requires c κs =
-    let a = c .before .before .before .before .before .before .pre .0 .arrays in
+    let a = c .before .before .before .before .before .before .pre .1 .arrays in
     (ends-rise _ _ _ _ a, arrays-few _ _ _ _ a)
 
 gather-lower-requires : tie.Need-gather-lower-requires

@@ -9,7 +9,7 @@ slice-aggregate-gather-heard : tie.Need-slice-aggregate-gather-heard
 slice-aggregate-gather-heard c = search needs
 
 gather-heard-requires : tie.Need-gather-heard-requires
-gather-heard-requires c κs = (c .before .before .before .before .before .before .pre .0, c .before .before .before .before .before .before .pre .1, refl, zero-entries 256)
+gather-heard-requires c κs = let p = c .before .before .before .before .before .before .pre in (p .0, p .1, p .2, refl, zero-entries 256)
 
 slice-aggregate-least-sum : tie.Need-slice-aggregate-least-sum
 slice-aggregate-least-sum c = search needs
@@ -20,7 +20,7 @@ least-sum-requires c κs = search needs
 returns : tie.Need-returns
 returns c =
     let s = c .before .before .before .before .before .before .before .before .before .before in
-    quietest-is _ _ _ _ _ _ _ (s .pre .0 .low) (c .before .before .before .gather-heard .ensures .1) (c .least-sum .ensures)
+    quietest-is _ _ _ _ _ _ _ (s .pre .1 .low) (c .before .before .before .gather-heard .ensures .1) (c .least-sum .ensures)
 
 pub quietest-at-spec : {M : Type 1} → statement M
 quietest-at-spec =

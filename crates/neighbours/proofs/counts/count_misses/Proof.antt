@@ -4,8 +4,8 @@ use borrow.Author.Needs.{needs}
 use Rattle.neighbours.proofs.counts.count_misses.Statement.{statement}
 use Rattle.neighbours.proofs.counts.count_misses.Tie as tie
 
-first-count-requires : tie.Need-first-count-requires
-first-count-requires c κs = search needs
+arcs-end-requires : tie.Need-arcs-end-requires
+arcs-end-requires c κs = search needs
 
 sub-misses-of : tie.Need-sub-misses-of
 sub-misses-of c = search needs
@@ -19,18 +19,18 @@ part-misses-of-end c = search needs
 misses-of-requires : tie.Need-misses-of-requires
 misses-of-requires c κs =
     let s = c .before .before .before in
-    (s .pre .0, omega (arith, s .pre .3), counts-behind _ _ _ _ _ (c .before .first-count .ensures .0) _ (s .pre .4) .1)
+    (s .pre .0, omega (arith, s .pre .3), counts-behind _ _ _ _ _ (c .before .arcs-end .ensures .0) _ (s .pre .4) .1)
 
 returns : tie.Need-returns
 returns c =
     let e = c .misses-of .ensures in
-    (misses-are _ _ _ _ _ (c .before .before .first-count .ensures .0) _ _ (e .0), e .1)
+    (misses-are _ _ _ _ _ (c .before .before .arcs-end .ensures .0) _ _ (e .0), e .1)
 
 pub count-misses-spec : {M : Type 1} → statement M
 count-misses-spec =
     tie.close
     (tie.spec
-    first-count-requires
+    arcs-end-requires
     sub-misses-of
     part-misses-of-start
     part-misses-of-end

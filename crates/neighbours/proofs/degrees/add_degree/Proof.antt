@@ -5,93 +5,79 @@ use native.Mathlib.Omega.{arith}
 use mir.Syntax.{w64}
 use mir.Facts.{toZ-ofZ}
 use borrow.Author.Needs.{sfits-of}
-use Rattle.links.proofs.Walk.{arrays-few}
+use Rattle.links.proofs.Walk.{few-links}
 use Rattle.qubo.specs.Terms.{single}
 use Rattle.qubo.specs.Rows.{addTerms}
-use Rattle.neighbours.proofs.DegreeTerm.{start-is, start-low, single-ready, numbered-ready, touching-ready, degree-done}
+use Rattle.neighbours.proofs.DegreeTerm.{single-ready, numbered-ready, touching-ready, degree-done}
 use borrow.Author.Needs.{needs}
 use Rattle.neighbours.proofs.degrees.add_degree.Statement.{statement}
 use Rattle.neighbours.proofs.degrees.add_degree.Tie as tie
 
 own-of-requires : tie.Need-own-of-requires
 own-of-requires c κs =
-    let s = c .before .before .before in
-    rw (toZ-ofZ (s .fits .c)) (s .pre .0 .5 .penalty, s .pre .0 .4)
+    let s = c .before .before in
+    rw (toZ-ofZ (s .fits .c)) (s .pre .0 .6 .penalty, s .pre .0 .5)
 
 twice-of-requires : tie.Need-twice-of-requires
 twice-of-requires c κs =
-    let s = c .before .before .before .before in
-    rw (toZ-ofZ (s .fits .c)) (s .pre .0 .5 .penalty, s .pre .0 .4)
+    let s = c .before .before .before in
+    rw (toZ-ofZ (s .fits .c)) (s .pre .0 .6 .penalty, s .pre .0 .5)
 
-first-count-requires : tie.Need-first-count-requires
-first-count-requires c κs =
-    let p = c .before .before .before .before .before .pre .0 in
-    (p .0 .arrays .survey .meters-high, p .0 .deep, arrays-few _ _ _ _ (p .0 .arrays))
-
-sub-start : tie.Need-sub-start
-sub-start c = search needs
-
-mul-start : tie.Need-mul-start
-mul-start c =
-    let s = c .before .before .before .before .before .before in
-    let p = s .pre .0 in
-    omega (arith, start-low (s .args .meters) (s .args .d) (s .args .meter) (p .0 .arrays .survey .meters-high) (p .1) (p .3))
-
-add-start : tie.Need-add-start
-add-start c =
-    let s = c .before .before .before .before .before .before in
-    let p = s .pre .0 in
-    omega (arith, c .first-count .ensures, start-low (s .args .meters) (s .args .d) (s .args .meter) (p .0 .arrays .survey .meters-high) (p .1) (p .3))
+count-start-requires : tie.Need-count-start-requires
+count-start-requires c κs =
+    let p = c .before .before .before .before .pre .0 in
+    let n = p .0 .arrays .survey .meters-high in
+    (n, p .1, few-links _ _ _ (p .0), p .2, p .3, omega (arith, p .4))
 
 add-single-requires : tie.Need-add-single-requires
 add-single-requires c κs =
-    let s = c .before .before .before .before .before .before .before in
+    let s = c .before .before .before .before .before .before in
     let p = s .pre .0 in
     let o = c .before .before .before .own-of in
     let q = c .before .before .twice-of in
     let own-is : o .result ≡ pos 0 -ℤ pos (s .args .penalty) *ℤ s .args .c *ℤ s .args .c = o .ensures ∙ rw (toZ-ofZ (s .fits .c)) refl in
     let q-is : q .result ≡ pos 2 *ℤ (pos (s .args .penalty) *ℤ s .args .c) = q .ensures ∙ rw (toZ-ofZ (s .fits .c)) refl in
-    let at = start-is _ _ _ (s .args .d) (s .args .meter) _ (p .2) (c .before .first-count .ensures .0) in
-    rw (toZ-ofZ (sfits-of {w = w64} (o .ok))) (single-ready _ _ _ _ _ _ _ _ _ (p .0) (p .1) (p .2) (p .3) (s .args .c) (p .4) _ (p .5) _ own-is _ q-is _ at)
+    let at = c .before .count-start .ensures .0 in
+    rw (toZ-ofZ (sfits-of {w = w64} (o .ok))) (single-ready _ _ _ _ _ _ _ _ (p .0) (p .1) (p .2) (p .3) (p .4) (s .args .c) (p .5) _ (p .6) _ own-is _ q-is _ at)
 
 add-numbered-requires : tie.Need-add-numbered-requires
 add-numbered-requires c κs =
-    let s = c .before .before .before .before .before .before .before .before .before .before in
+    let s = c .before .before .before .before .before .before .before .before .before in
     let p = s .pre .0 in
     let o = c .before .before .before .before .before .before .own-of in
     let q = c .before .before .before .before .before .twice-of in
     let own-is : o .result ≡ pos 0 -ℤ pos (s .args .penalty) *ℤ s .args .c *ℤ s .args .c = o .ensures ∙ rw (toZ-ofZ (s .fits .c)) refl in
     let q-is : q .result ≡ pos 2 *ℤ (pos (s .args .penalty) *ℤ s .args .c) = q .ensures ∙ rw (toZ-ofZ (s .fits .c)) refl in
-    let at = start-is _ _ _ (s .args .d) (s .args .meter) _ (p .2) (c .before .before .before .before .first-count .ensures .0) in
+    let at = c .before .before .before .before .count-start .ensures .0 in
     let one : c .before .before .add-single .last .0 ≡ addTerms (single (o .result) (s .args .i) ∷ []) (s .args .i) (s .args .row .now) = c .before .before .add-single .ensures ∙ rw (toZ-ofZ (sfits-of {w = w64} (o .ok))) refl in
-    rw (toZ-ofZ (sfits-of {w = w64} (q .ok))) (numbered-ready _ _ _ _ _ _ _ _ _ (p .0) (p .1) (p .2) (p .3) (s .args .c) (p .4) _ (p .5) _ own-is _ q-is _ at _ one)
+    rw (toZ-ofZ (sfits-of {w = w64} (q .ok))) (numbered-ready _ _ _ _ _ _ _ _ (p .0) (p .1) (p .2) (p .3) (p .4) (s .args .c) (p .5) _ (p .6) _ own-is _ q-is _ at _ one)
 
 add-touching-requires : tie.Need-add-touching-requires
 add-touching-requires c κs =
-    let s = c .before .before .before .before .before .before .before .before .before .before .before .before .before in
+    let s = c .before .before .before .before .before .before .before .before .before .before .before .before in
     let p = s .pre .0 in
     let o = c .before .before .before .before .before .before .before .before .before .own-of in
     let q = c .before .before .before .before .before .before .before .before .twice-of in
     let own-is : o .result ≡ pos 0 -ℤ pos (s .args .penalty) *ℤ s .args .c *ℤ s .args .c = o .ensures ∙ rw (toZ-ofZ (s .fits .c)) refl in
     let q-is : q .result ≡ pos 2 *ℤ (pos (s .args .penalty) *ℤ s .args .c) = q .ensures ∙ rw (toZ-ofZ (s .fits .c)) refl in
-    let at = start-is _ _ _ (s .args .d) (s .args .meter) _ (p .2) (c .before .before .before .before .before .before .before .first-count .ensures .0) in
+    let at = c .before .before .before .before .before .before .before .count-start .ensures .0 in
     let one : c .before .before .before .before .before .add-single .last .0 ≡ addTerms (single (o .result) (s .args .i) ∷ []) (s .args .i) (s .args .row .now) = c .before .before .before .before .before .add-single .ensures ∙ rw (toZ-ofZ (sfits-of {w = w64} (o .ok))) refl in
-    rw (toZ-ofZ (sfits-of {w = w64} (q .ok))) (touching-ready _ _ _ _ _ _ _ _ _ (p .0) (p .1) (p .2) (p .3) (s .args .c) (p .4) _ (p .5) _ own-is _ q-is _ at _ one _ (c .before .before .add-numbered .ensures ∙ rw (toZ-ofZ (sfits-of {w = w64} (q .ok))) refl) _ (s .pre .1 .0 .0) (s .pre .1 .0 .1))
+    rw (toZ-ofZ (sfits-of {w = w64} (q .ok))) (touching-ready _ _ _ _ _ _ _ _ (p .0) (p .1) (p .2) (p .3) (p .4) (s .args .c) (p .5) _ (p .6) _ own-is _ q-is _ at _ one _ (c .before .before .add-numbered .ensures ∙ rw (toZ-ofZ (sfits-of {w = w64} (q .ok))) refl) _ (s .pre .1 .0 .0) (s .pre .1 .0 .1))
 
 same-length : tie.Need-same-length
 same-length c = search needs
 
 returns : tie.Need-returns
 returns c =
-    let s = c .before .before .before .before .before .before .before .before .before .before .before .before .before .before .before in
+    let s = c .before .before .before .before .before .before .before .before .before .before .before .before .before .before in
     let p = s .pre .0 in
     let o = c .before .before .before .before .before .before .before .before .before .before .before .own-of in
     let q = c .before .before .before .before .before .before .before .before .before .before .twice-of in
     let own-is : o .result ≡ pos 0 -ℤ pos (s .args .penalty) *ℤ s .args .c *ℤ s .args .c = o .ensures ∙ rw (toZ-ofZ (s .fits .c)) refl in
     let q-is : q .result ≡ pos 2 *ℤ (pos (s .args .penalty) *ℤ s .args .c) = q .ensures ∙ rw (toZ-ofZ (s .fits .c)) refl in
-    let at = start-is _ _ _ (s .args .d) (s .args .meter) _ (p .2) (c .before .before .before .before .before .before .before .before .before .first-count .ensures .0) in
+    let at = c .before .before .before .before .before .before .before .before .before .count-start .ensures .0 in
     let one : c .before .before .before .before .before .before .before .add-single .last .0 ≡ addTerms (single (o .result) (s .args .i) ∷ []) (s .args .i) (s .args .row .now) = c .before .before .before .before .before .before .before .add-single .ensures ∙ rw (toZ-ofZ (sfits-of {w = w64} (o .ok))) refl in
-    degree-done _ _ _ _ _ _ _ _ _ (p .0) (p .1) (p .2) (p .3) (s .args .c) (p .4) _ (p .5) _ own-is _ q-is _ at _ one _ (c .before .before .before .before .add-numbered .ensures ∙ rw (toZ-ofZ (sfits-of {w = w64} (q .ok))) refl) (s .pre .1 .1) _ (c .before .add-touching .ensures ∙ rw (toZ-ofZ (sfits-of {w = w64} (q .ok))) refl)
+    degree-done _ _ _ _ _ _ _ _ (p .0) (p .1) (p .2) (p .3) (p .4) (s .args .c) (p .5) _ (p .6) _ own-is _ q-is _ at _ one _ (c .before .before .before .before .add-numbered .ensures ∙ rw (toZ-ofZ (sfits-of {w = w64} (q .ok))) refl) (s .pre .1 .1) _ (c .before .add-touching .ensures ∙ rw (toZ-ofZ (sfits-of {w = w64} (q .ok))) refl)
 
 pub add-degree-spec : {M : Type 1} → statement M
 add-degree-spec =
@@ -99,10 +85,7 @@ add-degree-spec =
     (tie.spec
     own-of-requires
     twice-of-requires
-    first-count-requires
-    sub-start
-    mul-start
-    add-start
+    count-start-requires
     add-single-requires
     add-numbered-requires
     add-touching-requires

@@ -1,7 +1,7 @@
 use mathlib.Core.Path.{sym, _∙_, refl}
 use mir.Facts.{toZ-ofZ}
 use Rattle.qubo.proofs.RowAction.{add-none}
-use Rattle.neighbours.specs.Walks.{linkRun}
+use Rattle.neighbours.specs.Inner.{linkRun}
 use Rattle.neighbours.proofs.DegreeParts.{part-yes, part-no}
 use borrow.Author.Needs.{needs}
 use Rattle.neighbours.proofs.degrees.add_link.Statement.{statement}

@@ -3,8 +3,6 @@ use lib.ListN.{length}
 use native.Mathlib.Omega.{arith}
 use Rattle.print_table.proofs.lines.put.Statement.{statement}
 use Rattle.print_table.proofs.lines.put.Tie as tie
-use Rattle.print_table.proofs.lines.put.Reads as reads
-use Rattle.print_table.proofs.lines.put.Lts as lts
 
 abbrev Inv-loop : tie.InvT-loop
 Inv-loop out₀ at text i₀ out i = (i ≤ length text) × (at + length text ≤ 65536)
@@ -12,39 +10,30 @@ Inv-loop out₀ at text i₀ out i = (i ≤ length text) × (at + length text �
 abbrev μ-loop : tie.MeasureT-loop
 μ-loop out₀ at text i₀ out i = length text - i
 
--- src/lines.rt:17:5
 loop-holds : tie.Need-loop-holds Inv-loop μ-loop
 loop-holds c = omega arith
 
--- src/lines.rt:18:23
 shared-slice-read-out : tie.Need-shared-slice-read-out Inv-loop μ-loop
 shared-slice-read-out c = omega arith
 
--- src/lines.rt:18:13
 add-out : tie.Need-add-out Inv-loop μ-loop
 add-out c = omega arith
 
--- src/lines.rt:18:9
 element-write-out : tie.Need-element-write-out Inv-loop μ-loop
 element-write-out c = omega arith
 
--- src/lines.rt:19:9
 add-i : tie.Need-add-i Inv-loop μ-loop
 add-i c = omega arith
 
--- src/lines.rt:17:5
 loop-less : tie.Need-loop-less Inv-loop μ-loop
 loop-less c = omega arith
 
--- src/lines.rt:17:5
 loop-again : tie.Need-loop-again Inv-loop μ-loop
 loop-again c = omega arith
 
--- src/lines.rt:21:5
 add-result : tie.Need-add-result Inv-loop μ-loop
 add-result c = omega arith
 
--- src/lines.rt:12:1
 returns : tie.Need-returns Inv-loop μ-loop
 returns c = omega arith
 

@@ -3,28 +3,19 @@ use native.Mathlib.Omega.{arith}
 use borrow.Author.Needs.{needs}
 use Rattle.print_table.proofs.lines.put_number.Statement.{statement}
 use Rattle.print_table.proofs.lines.put_number.Tie as tie
-use Rattle.print_table.proofs.lines.put_number.Reads as reads
-use Rattle.print_table.proofs.lines.put_number.Lts as lts
-use Rattle.io.proofs.decimal.Reads as decimal-reads
-use Rattle.print_table.proofs.lines.put.Reads as put-reads
 
--- src/lines.rt:30:9
 decimal-requires : tie.Need-decimal-requires
 decimal-requires c κs = search needs
 
--- src/lines.rt:31:18
 array-share-prefix-digits : tie.Need-array-share-prefix-digits
 array-share-prefix-digits c = search needs
 
--- src/lines.rt:31:18
 slice-aggregate-put : tie.Need-slice-aggregate-put
 slice-aggregate-put c = search needs
 
--- src/lines.rt:31:5
 put-requires : tie.Need-put-requires
 put-requires c κs = omega (arith, few-digits _ _ (c .before .before .before .before .fits .n .fits) (c .before .before .decimal .ensures .1 .0))
 
--- src/lines.rt:25:1
 returns : tie.Need-returns
 returns c = omega (arith, few-digits _ _ (c .before .before .before .before .before .fits .n .fits) (c .before .before .before .decimal .ensures .1 .0))
 

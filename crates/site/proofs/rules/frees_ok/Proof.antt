@@ -4,7 +4,7 @@ use borrow.Author.Needs.{needs}
 use mathlib.Core.Path.{_≡_, sym, _∙_}
 use borrow.Author.Tests.{not-true, not-false}
 use Rattle.site.specs.Layout.{firstFree}
-use Rattle.site.specs.Walks.{walkFree}
+use Rattle.site.specs.Inner.{walkFree}
 use Rattle.site.proofs.Walked.{free-out, free-bad, free-on, free-end}
 use Rattle.site.proofs.rules.frees_ok.Statement.{statement}
 use Rattle.site.proofs.rules.frees_ok.Tie as tie

@@ -1,9 +1,6 @@
 use mathlib.Core.Path.{sym}
 use lib.Seq.{length-take-le}
 use native.Mathlib.Omega.{arith}
-use mathlib.Core.Path.{sym}
-use lib.Seq.{length-take-le}
-use native.Mathlib.Omega.{arith}
 use borrow.Author.Needs.{needs}
 use Rattle.surveys.proofs.asks.show_decode.Statement.{statement}
 use Rattle.surveys.proofs.asks.show_decode.Tie as tie

@@ -23,11 +23,8 @@ loop-holds c = search needs
 try-one-requires : tie.Need-try-one-requires Inv-loop μ-loop
 try-one-requires c κs = search needs
 
-element-copy-out-energy : tie.Need-element-copy-out-energy Inv-loop μ-loop
-element-copy-out-energy c = search needs
-
-element-copy-out-energy-2 : tie.Need-element-copy-out-energy-2 Inv-loop μ-loop
-element-copy-out-energy-2 c = search needs
+asked-requires : tie.Need-asked-requires Inv-loop μ-loop
+asked-requires c κs = search needs
 
 energy-requires : tie.Need-energy-requires Inv-loop μ-loop
 energy-requires c κs = search needs
@@ -72,8 +69,7 @@ try-all-spec =
     within-requires
     loop-holds
     try-one-requires
-    element-copy-out-energy
-    element-copy-out-energy-2
+    asked-requires
     energy-requires
     lower-requires
     counted-requires

@@ -14,7 +14,7 @@ fill-arcs-requires c κs = search needs
 encode-part-requires : tie.Need-encode-part-requires
 encode-part-requires c κs =
     let s = c .before .before .before .before .before .before .before .before .before .before .before .before in
-    let size = arcChoices-length (s .args .meters) _ (s .args .plan .now) ∙ ap (λ k. 2 * k) (length-linksOf (s .args .us .now) (s .args .vs .now) []) in
+    let size = arcChoices-length _ _ (s .args .plan .now) ∙ ap (λ k. 2 * k) (length-linksOf (s .args .us .now) (s .args .vs .now) []) in
     code-asks _ _ _ (c .before .before .before .before .fill-arcs .ensures []) _ size (λ k h. s .pre .1 .0 [] k) _ _ (s .pre .1 .1)
 
 same-length : tie.Need-same-length

@@ -1,6 +1,6 @@
 use mathlib.Core.Path.{sym, ap, _∙_}
 use native.Mathlib.Omega.{arith}
-use Rattle.tree.specs.Stores.{added}
+use Rattle.tree.specs.Inner.{added}
 use Rattle.tree.proofs.ReadParents.{link-none, read-small}
 use borrow.Author.Needs.{needs}
 use Rattle.tree.proofs.codes.read_link.Statement.{statement}

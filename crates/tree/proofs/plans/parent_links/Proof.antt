@@ -3,7 +3,7 @@ use native.Mathlib.Omega.{arith}
 use lib.ListN.{length, getD}
 use Rattle.lists.specs.Sums.{nth}
 use Rattle.lists.proofs.Sums.{same-le}
-use Rattle.links.proofs.Walk.{summed-start}
+use Rattle.links.proofs.Walk.{ends-at, few-links, summed-start}
 use Rattle.tree.proofs.PlanTest.{Joined, joined-turn, joined-end}
 use Rattle.tree.proofs.plans.parent_links.Statement.{statement}
 use Rattle.tree.proofs.plans.parent_links.Tie as tie
@@ -19,7 +19,7 @@ loop-holds : tie.Need-loop-holds Inv-loop μ-loop
 loop-holds c = (omega arith, omega arith, λ ws. summed-start _ _ ws _)
 
 shared-slice-read-is-parent : tie.Need-shared-slice-read-is-parent Inv-loop μ-loop
-shared-slice-read-is-parent c = omega (arith, c .before .before .before .before .before .before .pre .1)
+shared-slice-read-is-parent c = omega (arith, c .before .before .before .before .before .before .pre .arrays .same-v)
 
 shared-slice-read-is-parent-2 : tie.Need-shared-slice-read-is-parent-2 Inv-loop μ-loop
 shared-slice-read-is-parent-2 c = omega arith
@@ -27,19 +27,19 @@ shared-slice-read-is-parent-2 c = omega arith
 is-parent-requires : tie.Need-is-parent-requires Inv-loop μ-loop
 is-parent-requires c κs =
     let s = c .before .before .before .before .before .before .before in
-    let e = s .pre .0 (c .before .before .before .loop .k) (omega arith) in
+    let e = ends-at _ _ _ (s .pre) (c .before .before .before .loop .k) (omega arith) in
     (e .0, omega (arith, e))
 
 shared-slice-read-is-parent-3 : tie.Need-shared-slice-read-is-parent-3 Inv-loop μ-loop
 shared-slice-read-is-parent-3 c = omega arith
 
 shared-slice-read-is-parent-4 : tie.Need-shared-slice-read-is-parent-4 Inv-loop μ-loop
-shared-slice-read-is-parent-4 c = omega (arith, c .before .before .before .before .before .before .before .before .before .before .pre .1)
+shared-slice-read-is-parent-4 c = omega (arith, c .before .before .before .before .before .before .before .before .before .before .pre .arrays .same-v)
 
 is-parent-requires-2 : tie.Need-is-parent-requires-2 Inv-loop μ-loop
 is-parent-requires-2 c κs =
     let s = c .before .before .before .before .before .before .before .before .before .before in
-    let e = s .pre .0 (c .before .before .before .before .before .before .loop .k) (omega arith) in
+    let e = ends-at _ _ _ (s .pre) (c .before .before .before .before .before .before .loop .k) (omega arith) in
     (omega (arith, e), e .2)
 
 add-count : tie.Need-add-count Inv-loop μ-loop
@@ -54,10 +54,10 @@ add-count-2 c =
     let a = c .before .before .before .before .before .before .before .before .before .before .before .args in
     let u = getD (a .us .now) (c .before .before .before .before .before .before .before .loop .k) 0 in
     let v = getD (a .vs .now) (c .before .before .before .before .before .before .before .loop .k) 0 in
-    omega (arith, c .before .before .before .is-parent .ensures, c .is-parent2 .ensures, same-le (nth (a .plan .now) u) v, same-le (nth (a .plan .now) v) u, c .before .before .before .before .before .before .before .loop .inv .1, c .before .before .before .before .before .before .before .before .before .before .before .pre .2)
+    omega (arith, c .before .before .before .is-parent .ensures, c .is-parent2 .ensures, same-le (nth (a .plan .now) u) v, same-le (nth (a .plan .now) v) u, c .before .before .before .before .before .before .before .loop .inv .1, few-links _ _ _ (c .before .before .before .before .before .before .before .before .before .before .before .pre))
 
 add-k : tie.Need-add-k Inv-loop μ-loop
-add-k c = omega (arith, c .before .before .before .before .before .before .before .before .before .before .before .pre .2)
+add-k c = omega (arith, few-links _ _ _ (c .before .before .before .before .before .before .before .before .before .before .before .pre))
 
 loop-less : tie.Need-loop-less Inv-loop μ-loop
 loop-less c = omega arith

@@ -4,7 +4,7 @@ use native.Mathlib.Omega.{arith}
 use lib.ListN.{length}
 use Rattle.links.specs.Links.{linkIn}
 use Rattle.links.proofs.Walk.{Summed, summed-start, summed-turn, link-at, arrays-few}
-use Rattle.tree.specs.Stores.{usedWeight}
+use Rattle.tree.specs.Inner.{usedWeight}
 use Rattle.tree.proofs.PlanTest.{weighed-end}
 use Rattle.tree.proofs.plans.tree_weight.Statement.{statement}
 use Rattle.tree.proofs.plans.tree_weight.Tie as tie

@@ -12,6 +12,9 @@ abbrev μ-loop : tie.MeasureT-loop
 loop-holds : tie.Need-loop-holds Inv-loop μ-loop
 loop-holds c = tt
 
+asks-requires : tie.Need-asks-requires Inv-loop μ-loop
+asks-requires c κs = search needs
+
 case-of-requires : tie.Need-case-of-requires Inv-loop μ-loop
 case-of-requires c κs = search needs
 
@@ -43,6 +46,7 @@ compare-cases-spec =
     Inv-loop
     μ-loop
     loop-holds
+    asks-requires
     case-of-requires
     compare-table-requires
     is-chosen-requires
