@@ -8,7 +8,7 @@ use native.Mathlib.Omega.{arith}
 use borrow.Author.Tests.{ltb-true}
 use Rattle.lists.proofs.Tests.{and-left, and-right}
 use Rattle.site.specs.Refusal.{refusal}
-use Rattle.plans.specs.Best.{First, none, here, later, Applies, this, another, place, risesFrom}
+use Rattle.plans.specs.Best.{First, none, here, later, Applies, this, another, place, risesFrom, InOrder}
 
 -- what is given is the first that applies
 pub refusal-first : (xs : List (ℕ × Bool)) → First xs (refusal xs)
@@ -40,7 +40,7 @@ above (x ∷ xs) low n r (another a) =
     let q = above xs (place (x .0)) n (and-right (ltb low (place (x .0))) _ r) a in
     omega (arith, p, q)
 
--- "Of several, the lowest number is given, except that 10 precedes 9"
+-- "Of several, the lowest number is given, except that 10 precedes 9", and but for the places that 02 gives: that of the first place is given
 pub lowest-given : (xs : List (ℕ × Bool)) (low n : ℕ) → risesFrom low xs ≡ true → Applies n xs → (place (refusal xs) ≤ place n) × (low < place (refusal xs))
 unfolding refusal risesFrom
 lowest-given ((m, true) ∷ xs) low n r (this e) = (omega arith, ltb-true low (place m) (and-left (ltb low (place m)) _ r))
@@ -53,3 +53,13 @@ lowest-given ((m, false) ∷ xs) low n r (another a) =
     let p = ltb-true low (place m) (and-left (ltb low (place m)) _ r) in
     let q = lowest-given xs (place m) n (and-right (ltb low (place m)) _ r) a in
     (q .0, omega (arith, p, q .1))
+
+-- numbers alone
+abbrev pub numbers : List ℕ → List (ℕ × Bool)
+numbers [] = []
+numbers (n ∷ ns) = (n, true) ∷ numbers ns
+
+-- the order of trial, of all numbers that there are
+pub order-of-trial : InOrder (numbers (1 ∷ 2 ∷ 3 ∷ 4 ∷ 5 ∷ 6 ∷ 7 ∷ 8 ∷ 10 ∷ 9 ∷ 11 ∷ 12 ∷ []))
+unfolding risesFrom
+order-of-trial = refl

@@ -1,5 +1,5 @@
 -- The words of the demands, of the bytes s of an image and what is asked; those of energies and plans are in qubo/specs/Instance. Assumes nothing.
-use Prim.Native.Nat.{ℕ}
+use Prim.Native.Nat.{ℕ, _+_, _*_}
 use mathlib.Core.Path.{_≡_}
 use mathlib.Core.Bool.{Bool, true, false, _&&_, cond}
 use mathlib.Core.List.{List, [], _∷_}
@@ -20,9 +20,18 @@ pub data Applies (n : ℕ) : List (ℕ × Bool) → Type 0 where
   this : {b : Bool} {xs : List (ℕ × Bool)} → b ≡ true → Applies n ((n, b) ∷ xs)
   another : {x : ℕ × Bool} {xs : List (ℕ × Bool)} → Applies n xs → Applies n (x ∷ xs)
 
--- where a number stands in the order of trial: "the lowest number .., except that 10 precedes 9"
+-- the numbers that are placed after another, each with that other: "10 precedes 9" (01). 02 adds to them
+abbrev pub placedAfter : List (ℕ × ℕ)
+placedAfter = (9, 10) ∷ []
+
+-- a number stands in the order of numbers, and behind it, before the next one, those placed after it: "numbers given the same place .. are tried lowest first". There are fewer than 100
+abbrev pub placeBy : List (ℕ × ℕ) → ℕ → ℕ
+placeBy [] n = 100 * n
+placeBy (x ∷ xs) n = cond (eqb n (x .0)) (100 * x .1 + n) (placeBy xs n)
+
+-- where a number stands in the order of trial: "the lowest number is given", but for these
 abbrev pub place : ℕ → ℕ
-place n = cond (eqb n 9) 10 (cond (eqb n 10) 9 n)
+place n = placeBy placedAfter n
 
 -- the places rise, from above `low` on
 unfoldable pub risesFrom : ℕ → List (ℕ × Bool) → Bool
