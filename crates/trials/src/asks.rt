@@ -42,21 +42,21 @@ const BROKEN: [usize; 8] = [0, 1, 7, 8, 15, 22, 23, 2063];
 const LISTS: [usize; 4] = [4681, 5201, 4680, 18050];
 
 // One of the kinds.
-fn draw_kind(counts: &mut [u64; 66]) -> u64 {
+fn draw_kind(counts: &mut [u64; 130]) -> u64 {
     let kinds = KINDS;
     let k = counts::below(counts, 16) % 16;
     kinds[k]
 }
 
 // One of the parameters.
-fn draw_parameter(counts: &mut [u64; 66]) -> u64 {
+fn draw_parameter(counts: &mut [u64; 130]) -> u64 {
     let parameters = PARAMETERS;
     let k = counts::below(counts, 16) % 16;
     parameters[k]
 }
 
 // A row: the bit count, one above it, the greatest number, or one that there is.
-fn draw_row(counts: &mut [u64; 66], bits: usize) -> u64 {
+fn draw_row(counts: &mut [u64; 130], bits: usize) -> u64 {
     let way = counts::below(counts, 8);
     let row = counts::below(counts, bits) as u64;
     if way == 0 {
@@ -69,7 +69,7 @@ fn draw_row(counts: &mut [u64; 66], bits: usize) -> u64 {
 }
 
 // A length: one too short, one too long, or right.
-fn draw_length(counts: &mut [u64; 66], right: usize) -> usize {
+fn draw_length(counts: &mut [u64; 130], right: usize) -> usize {
     let way = counts::below(counts, 6);
     if way == 0 {
         return if right == 0 { 0 } else { right - 1 };
@@ -82,7 +82,7 @@ fn draw_length(counts: &mut [u64; 66], right: usize) -> usize {
 }
 
 // One of the lists.
-fn draw_list(counts: &mut [u64; 66], meters: usize) -> [u8; 8] {
+fn draw_list(counts: &mut [u64; 130], meters: usize) -> [u8; 8] {
     let lists = LISTS;
     let k = counts::below(counts, 4) % 4;
     let mut list = [0u8; 8];
@@ -91,7 +91,7 @@ fn draw_list(counts: &mut [u64; 66], meters: usize) -> [u8; 8] {
 }
 
 // In two of 8 draws a value that no bit has, else 1.
-fn draw_value(counts: &mut [u64; 66]) -> u8 {
+fn draw_value(counts: &mut [u64; 130]) -> u8 {
     let way = counts::below(counts, 8);
     if way == 0 {
         return 2;
@@ -109,14 +109,14 @@ fn altered(c: Case, lent_bits: usize, lent_plan: usize, flaw: u64) -> Case {
 }
 
 // A row.
-fn ask_row(image: &[u8], weights: &[u16; 2500], c: Case, counts: &mut [u64; 66]) {
+fn ask_row(image: &[u8], weights: &[u16; 2500], c: Case, counts: &mut [u64; 130]) {
     let row = draw_row(counts, c.bits);
     let lent = draw_length(counts, rows::row_length(c, row));
     rows::compare_row(image, weights, c, row, lent, counts);
 }
 
 // Bits, one of which has the value drawn.
-fn ask_bits(image: &[u8], weights: &[u16; 2500], c: Case, counts: &mut [u64; 66]) {
+fn ask_bits(image: &[u8], weights: &[u16; 2500], c: Case, counts: &mut [u64; 130]) {
     let bits = assignments::draw_bits(c.bits, counts);
     let at = counts::below(counts, c.bits);
     let value = draw_value(counts);
@@ -127,7 +127,7 @@ fn ask_bits(image: &[u8], weights: &[u16; 2500], c: Case, counts: &mut [u64; 66]
 }
 
 // A list, and bits.
-fn ask_plan(image: &[u8], weights: &[u16; 2500], c: Case, counts: &mut [u64; 66]) {
+fn ask_plan(image: &[u8], weights: &[u16; 2500], c: Case, counts: &mut [u64; 130]) {
     let lent_bits = draw_length(counts, c.bits);
     let lent_plan = draw_length(counts, c.meters);
     let asked = altered(c, lent_bits, lent_plan, 0);
@@ -142,7 +142,7 @@ fn ask_all(
     length: usize,
     weights: &[u16; 2500],
     c: Case,
-    counts: &mut [u64; 66],
+    counts: &mut [u64; 130],
 ) {
     let front = bytes::front(image, length);
     rows::compare_table(front, weights, c, counts);
@@ -162,7 +162,7 @@ fn broken(image: &[u8; 2064], way: usize) -> [u8; 2064] {
 }
 
 // Draws one ask and makes its calls, with the image as it is, with a byte that breaks a rule, or without its last byte.
-fn ask_once(image: &[u8; 2064], weights: &[u16; 2500], meters: usize, counts: &mut [u64; 66]) {
+fn ask_once(image: &[u8; 2064], weights: &[u16; 2500], meters: usize, counts: &mut [u64; 130]) {
     let way = counts::below(counts, 32);
     let copy = broken(image, way);
     let length = if way == 8 { 2063 } else { 2064 };
@@ -177,7 +177,7 @@ pub fn compare_asks(
     image: &[u8; 2064],
     weights: &[u16; 2500],
     meters: usize,
-    counts: &mut [u64; 66],
+    counts: &mut [u64; 130],
 ) {
     let mut k: usize = 0;
     while k < ASKS {

@@ -133,7 +133,7 @@ pub fn compare(
     weights: &[u16; 2500],
     c: Case,
     bits: &[u8; 128],
-    counts: &mut [u64; 66],
+    counts: &mut [u64; 130],
 ) -> u64 {
     let energy = rows::energy_of(weights, c, bits);
     let number = calls::number_of(c, c.meters, c.flaw);
@@ -168,7 +168,7 @@ fn bits_of(k: usize) -> [u8; 128] {
 }
 
 // Draws the first n bits.
-pub fn draw_bits(n: usize, counts: &mut [u64; 66]) -> [u8; 128] {
+pub fn draw_bits(n: usize, counts: &mut [u64; 130]) -> [u8; 128] {
     let mut bits = [0u8; 128];
     let mut i: usize = 0;
     while i < n {
@@ -191,7 +191,7 @@ pub fn power(base: usize, n: usize) -> usize {
 }
 
 // Every assignment.
-pub fn compare_all(image: &[u8], weights: &[u16; 2500], c: Case, counts: &mut [u64; 66]) -> Least {
+pub fn compare_all(image: &[u8], weights: &[u16; 2500], c: Case, counts: &mut [u64; 130]) -> Least {
     let end = power(2, c.bits);
     let mut least = none();
     let mut k: usize = 0;
@@ -205,7 +205,7 @@ pub fn compare_all(image: &[u8], weights: &[u16; 2500], c: Case, counts: &mut [u
 }
 
 // Random assignments.
-pub fn compare_some(image: &[u8], weights: &[u16; 2500], c: Case, counts: &mut [u64; 66]) {
+pub fn compare_some(image: &[u8], weights: &[u16; 2500], c: Case, counts: &mut [u64; 130]) {
     let mut k: usize = 0;
     while k < DRAWN {
         let bits = draw_bits(c.bits, counts);
@@ -234,7 +234,7 @@ pub fn compare_flipped(
     weights: &[u16; 2500],
     c: Case,
     bits: &[u8; 128],
-    counts: &mut [u64; 66],
+    counts: &mut [u64; 130],
 ) {
     let mut i: usize = 0;
     while i < c.bits {

@@ -84,7 +84,7 @@ fn tree_agrees(weights: &[u16; 2500], c: Case, plans: Least) -> bool {
 }
 
 // A case.
-pub fn compare_case(image: &[u8], weights: &[u16; 2500], c: Case, counts: &mut [u64; 66]) {
+pub fn compare_case(image: &[u8], weights: &[u16; 2500], c: Case, counts: &mut [u64; 130]) {
     rows::compare_rows(image, weights, c, counts);
     let plans = lists::compare_lists(image, weights, c, counts);
     counts::compared(counts, counts::LEAST, tree_agrees(weights, c, plans));
@@ -102,7 +102,7 @@ pub fn compare_cases(
     weights: &[u16; 2500],
     meters: usize,
     most: usize,
-    counts: &mut [u64; 66],
+    counts: &mut [u64; 130],
 ) {
     let mut k: u64 = 0;
     while k < 256 {

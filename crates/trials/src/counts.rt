@@ -25,14 +25,14 @@ const NUMBERS: usize = 9;
 const ALL: usize = 22;
 
 // One more at a place.
-fn count(counts: &mut [u64; 66], at: usize) {
-    let k = at % 66;
+fn count(counts: &mut [u64; 130], at: usize) {
+    let k = at % 130;
     counts[k] = std::num::wrapping_add_u64(counts[k], 1);
 }
 
 // One comparison of a subject.
-pub fn compared(counts: &mut [u64; 66], subject: usize, agrees: bool) {
-    let at = subject % 32 * 2;
+pub fn compared(counts: &mut [u64; 130], subject: usize, agrees: bool) {
+    let at = subject % 64 * 2;
     count(counts, at);
     if !agrees {
         count(counts, at + 1);
@@ -40,15 +40,15 @@ pub fn compared(counts: &mut [u64; 66], subject: usize, agrees: bool) {
 }
 
 // One call of a subject that is expected to return a number.
-pub fn called(counts: &mut [u64; 66], subject: usize, number: u64, agrees: bool) {
+pub fn called(counts: &mut [u64; 130], subject: usize, number: u64, agrees: bool) {
     compared(counts, subject, agrees);
-    compared(counts, NUMBERS + (number % 16) as usize, agrees);
+    compared(counts, NUMBERS + (number % 32) as usize, agrees);
 }
 
 // Draws a number below n, 0 where n is 0: the upper half of the next seed's bits. The next seed is 1664525 s + 1013904223, which wraps at 2^32.
-pub fn below(counts: &mut [u64; 66], n: usize) -> usize {
-    let seed = (counts[65] % 4294967296 * 1664525 + 1013904223) % 4294967296;
-    counts[65] = seed;
+pub fn below(counts: &mut [u64; 130], n: usize) -> usize {
+    let seed = (counts[129] % 4294967296 * 1664525 + 1013904223) % 4294967296;
+    counts[129] = seed;
     if n == 0 {
         return 0;
     }
@@ -82,8 +82,8 @@ fn title(k: usize) {
 }
 
 // The line of a subject.
-fn line(counts: &[u64; 66], k: usize) {
-    let at = k % 32 * 2;
+fn line(counts: &[u64; 130], k: usize) {
+    let at = k % 64 * 2;
     title(k);
     named(b": ", counts[at]);
     named(b" compared, ", counts[at + 1]);
@@ -91,7 +91,7 @@ fn line(counts: &[u64; 66], k: usize) {
 }
 
 // All lines.
-pub fn show(counts: &[u64; 66]) {
+pub fn show(counts: &[u64; 130]) {
     let mut k: usize = 0;
     while k < ALL {
         line(counts, k);

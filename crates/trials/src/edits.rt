@@ -88,7 +88,7 @@ pub fn edit_both(
     weights: &mut [u16; 2500],
     meters: usize,
     e: Edit,
-    counts: &mut [u64; 66],
+    counts: &mut [u64; 130],
 ) -> usize {
     let number = expected(weights, meters, e);
     let mut agrees = edit_agrees(image, e, number);
@@ -104,7 +104,7 @@ pub fn edit_both(
 }
 
 // Begins the image of a site.
-pub fn begin(image: &mut [u8; 2064], meters: usize, counts: &mut [u64; 66]) {
+pub fn begin(image: &mut [u8; 2064], meters: usize, counts: &mut [u64; 130]) {
     let number = plans::begin(image, meters as u64);
     counts::called(counts, counts::SITES, 0, number == 0);
 }

@@ -12,7 +12,7 @@ const EDITS: usize = 4000;
 const MOST_BITS: usize = 8192;
 
 // One of 64 edits begins, with one of the 13 numbers of meters from `least` on, 23 remove and 40 add. The ends are 0 to one above the meters. Weight 0 stands in for every weight that 16 divides.
-fn draw_large(counts: &mut [u64; 66], meters: usize, least: usize) -> Edit {
+fn draw_large(counts: &mut [u64; 130], meters: usize, least: usize) -> Edit {
     let ends = std::num::wrapping_add_usize(meters, 2);
     let way = counts::below(counts, 64);
     let u = counts::below(counts, ends);
@@ -38,7 +38,7 @@ fn refusal(allowed: bool, bits: usize) -> u64 {
 }
 
 // The bit count of what is asked for, or its refusal.
-fn compare_count(image: &[u8; 2064], meters: usize, links: u64, ask: Ask, counts: &mut [u64; 66]) {
+fn compare_count(image: &[u8; 2064], meters: usize, links: u64, ask: Ask, counts: &mut [u64; 130]) {
     let bits = reference::bits_of(meters, links, ask.kind, ask.parameter as usize);
     let number = refusal(reference::allows(ask.kind, ask.parameter, meters), bits);
     let answer = plans::bit_count(image, ask);
@@ -51,7 +51,7 @@ fn compare_count(image: &[u8; 2064], meters: usize, links: u64, ask: Ask, counts
 }
 
 // Those of kinds 0 to 3 with parameters 0 to 63.
-fn compare_counts(image: &[u8; 2064], meters: usize, links: u64, counts: &mut [u64; 66]) {
+fn compare_counts(image: &[u8; 2064], meters: usize, links: u64, counts: &mut [u64; 130]) {
     let mut k: u64 = 0;
     while k < 256 {
         compare_count(image, meters, links, calls::asks(k / 64, k % 64), counts);
@@ -60,11 +60,11 @@ fn compare_counts(image: &[u8; 2064], meters: usize, links: u64, counts: &mut [u
 }
 
 // One site, begun with the meters given and later with `least` or more.
-fn compare_site(start: usize, least: usize, counts: &mut [u64; 66]) {
+fn compare_site(start: usize, least: usize, counts: &mut [u64; 130]) {
     let mut image = [0u8; 2064];
     let mut weights = [0u16; 2500];
     edits::begin(&mut image, start, counts);
-    counts[65] = 1;
+    counts[129] = 1;
     let mut meters = start;
     let mut k: usize = 0;
     while k < EDITS {
@@ -78,7 +78,7 @@ fn compare_site(start: usize, least: usize, counts: &mut [u64; 66]) {
 }
 
 // A site where many adds meet a link that is there, and one of 48 meters, which fills up.
-pub fn compare_all(counts: &mut [u64; 66]) {
+pub fn compare_all(counts: &mut [u64; 130]) {
     compare_site(12, 0, counts);
     compare_site(48, 48, counts);
 }

@@ -51,7 +51,7 @@ fn compare_code(
     c: Case,
     list: &[u8; 8],
     code: &[u8; 128],
-    counts: &mut [u64; 66],
+    counts: &mut [u64; 130],
 ) -> u64 {
     let weight = reference::weight(weights, c.meters, c.ask.kind, list);
     let energy = assignments::compare(image, weights, c, code, counts);
@@ -73,7 +73,7 @@ pub fn compare_list(
     weights: &[u16; 2500],
     c: Case,
     list: &[u8; 8],
-    counts: &mut [u64; 66],
+    counts: &mut [u64; 130],
 ) -> u64 {
     let mut code = [0u8; 128];
     let is_plan = code_of(weights, c, list, &mut code);
@@ -101,7 +101,7 @@ pub fn compare_lists(
     image: &[u8],
     weights: &[u16; 2500],
     c: Case,
-    counts: &mut [u64; 66],
+    counts: &mut [u64; 130],
 ) -> Least {
     let width = base(c);
     let end = assignments::power(width, c.meters);

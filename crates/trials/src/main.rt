@@ -18,7 +18,7 @@ mod threes;
 
 // The small sites, the trees of three meters, the large sites, then what was compared.
 fn main() {
-    let mut counts = [0u64; 66];
+    let mut counts = [0u64; 130];
     sites::compare_all(&mut counts);
     threes::compare_all(&mut counts);
     large::compare_all(&mut counts);

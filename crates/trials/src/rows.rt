@@ -145,7 +145,7 @@ pub fn compare_row(
     c: Case,
     i: u64,
     lent: usize,
-    counts: &mut [u64; 66],
+    counts: &mut [u64; 130],
 ) {
     let a = asked_of(c, i, lent);
     let expected = expected_row(weights, c, a);
@@ -164,7 +164,7 @@ pub fn compare_row(
 }
 
 // All rows.
-pub fn compare_rows(image: &[u8], weights: &[u16; 2500], c: Case, counts: &mut [u64; 66]) {
+pub fn compare_rows(image: &[u8], weights: &[u16; 2500], c: Case, counts: &mut [u64; 130]) {
     let mut i: usize = 0;
     while i < c.bits {
         compare_row(image, weights, c, i as u64, LENT, counts);
@@ -187,7 +187,7 @@ fn table_agrees(image: &[u8], c: Case, none: u64) -> bool {
 }
 
 // Bit count, penalty and constant, which is the energy of all zeros.
-pub fn compare_table(image: &[u8], weights: &[u16; 2500], c: Case, counts: &mut [u64; 66]) {
+pub fn compare_table(image: &[u8], weights: &[u16; 2500], c: Case, counts: &mut [u64; 130]) {
     let zeros = [0u8; 128];
     let none = energy_of(weights, c, &zeros);
     counts::called(

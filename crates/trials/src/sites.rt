@@ -11,7 +11,7 @@ const SITES: usize = 60;
 const EDITS: usize = 20;
 
 // Any 16 bits in one of 8 draws, else 0 to 9.
-fn draw_weight(counts: &mut [u64; 66]) -> u16 {
+fn draw_weight(counts: &mut [u64; 130]) -> u16 {
     let way = counts::below(counts, 8);
     let any = counts::below(counts, 65536);
     if way == 0 {
@@ -21,7 +21,7 @@ fn draw_weight(counts: &mut [u64; 66]) -> u16 {
 }
 
 // One of 4 edits removes, the others add; the ends are 0 to one above the meters.
-fn draw_edit(counts: &mut [u64; 66], meters: usize) -> Edit {
+fn draw_edit(counts: &mut [u64; 130], meters: usize) -> Edit {
     let ends = std::num::wrapping_add_usize(meters, 2);
     let way = counts::below(counts, 4);
     let u = counts::below(counts, ends);
@@ -37,7 +37,7 @@ fn draw_edit(counts: &mut [u64; 66], meters: usize) -> Edit {
 }
 
 // Makes a site, of the image and of the matrix.
-fn make(image: &mut [u8; 2064], weights: &mut [u16; 2500], meters: usize, counts: &mut [u64; 66]) {
+fn make(image: &mut [u8; 2064], weights: &mut [u16; 2500], meters: usize, counts: &mut [u64; 130]) {
     edits::begin(image, meters, counts);
     let mut k: usize = 0;
     while k < EDITS {
@@ -48,7 +48,7 @@ fn make(image: &mut [u8; 2064], weights: &mut [u16; 2500], meters: usize, counts
 }
 
 // One site, from its number. The most bits for every assignment: the first site of each number of meters has more than the others.
-fn compare_site(s: usize, counts: &mut [u64; 66]) {
+fn compare_site(s: usize, counts: &mut [u64; 130]) {
     let meters = s % 5 + 1;
     let most = if s < 5 { 16 } else { 12 };
     let mut image = [0u8; 2064];
@@ -59,7 +59,7 @@ fn compare_site(s: usize, counts: &mut [u64; 66]) {
 }
 
 // All sites.
-pub fn compare_all(counts: &mut [u64; 66]) {
+pub fn compare_all(counts: &mut [u64; 130]) {
     let mut s: usize = 0;
     while s < SITES {
         compare_site(s, counts);

@@ -12,7 +12,7 @@ fn put(
     u: usize,
     v: usize,
     there: bool,
-    counts: &mut [u64; 66],
+    counts: &mut [u64; 130],
 ) {
     if !there {
         return;
@@ -29,7 +29,7 @@ fn put(
 }
 
 // The trees of a site with at most one neighbour, and with at most two.
-fn compare_limits(image: &[u8; 2064], weights: &[u16; 2500], counts: &mut [u64; 66]) {
+fn compare_limits(image: &[u8; 2064], weights: &[u16; 2500], counts: &mut [u64; 130]) {
     let one = cases::case_of(weights, 3, calls::asks(3, 1), true, 18);
     cases::compare_case(image, weights, one, counts);
     let two = cases::case_of(weights, 3, calls::asks(3, 2), true, 18);
@@ -37,7 +37,7 @@ fn compare_limits(image: &[u8; 2064], weights: &[u16; 2500], counts: &mut [u64; 
 }
 
 // One set of links: bit 0 of its number is the link of 1 and 2, bit 1 that of 1 and 3, bit 2 that of 2 and 3.
-fn compare_set(set: usize, counts: &mut [u64; 66]) {
+fn compare_set(set: usize, counts: &mut [u64; 130]) {
     let mut image = [0u8; 2064];
     let mut weights = [0u16; 2500];
     edits::begin(&mut image, 3, counts);
@@ -48,7 +48,7 @@ fn compare_set(set: usize, counts: &mut [u64; 66]) {
 }
 
 // All sets.
-pub fn compare_all(counts: &mut [u64; 66]) {
+pub fn compare_all(counts: &mut [u64; 130]) {
     let mut set: usize = 0;
     while set < 8 {
         compare_set(set, counts);
