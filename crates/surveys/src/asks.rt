@@ -1,4 +1,4 @@
-// Calls that read an image for a kind and its parameter. What is lent is printed after the call, so that a line shows what was altered too: numbers lent are 77 at first, and bytes 7.
+// Calls that read an image for what is asked. What is lent is printed after the call, so that a line shows what was altered too: numbers lent are 77 at first, and bytes 7.
 ghost use Prim.Native.Nat.{_≤_};
 use crate::bytes;
 use crate::lines;
@@ -17,11 +17,11 @@ pub fn asked(n: &[u64; 8]) -> Ask {
 }
 
 // `kind K P`: the bit count, the constant and A.
-pub fn show_kind(image: &[u8], n: &[u64; 8]) {
+pub fn show_kind(image: &[u8], ask: Ask) {
     lines::words(b":");
-    lines::answer(plans::bit_count(image, asked(n)));
-    lines::answer(plans::constant(image, asked(n)));
-    lines::answer(plans::penalty(image, asked(n)));
+    lines::answer(plans::bit_count(image, ask));
+    lines::answer(plans::constant(image, ask));
+    lines::answer(plans::penalty(image, ask));
 }
 
 // The first numbers of a slice.
@@ -35,8 +35,8 @@ fn print_front(places: &[i64]) {
 }
 
 // How many numbers the row has that comes back.
-fn row_length(image: &[u8], n: &[u64; 8], places: &mut [i64]) -> u64 {
-    let row = plans::row(image, asked(n), n[3], places);
+fn row_length(image: &[u8], ask: Ask, i: u64, places: &mut [i64]) -> u64 {
+    let row = plans::row(image, ask, i, places);
     row.len() as u64
 }
 
@@ -61,50 +61,60 @@ fn differing(places: &[i64], others: &[i64]) -> usize {
 
 // The number with which the row is refused, and the length of the part that comes back; the number of the call that fills other places, in how many places what the two calls leave differs, and what
 // the first one leaves.
-fn row_in(image: &[u8], n: &[u64; 8], places: &mut [i64], others: &mut [i64]) {
-    lines::named(b": ", plans::row_refusal(image, asked(n), n[3], places));
-    lines::named(b" ", row_length(image, n, places));
-    lines::named(b" ", plans::fill_row(image, asked(n), n[3], others));
+fn row_in(image: &[u8], ask: Ask, i: u64, places: &mut [i64], others: &mut [i64]) {
+    lines::named(b": ", plans::row_refusal(image, ask, i, places));
+    lines::named(b" ", row_length(image, ask, i, places));
+    lines::named(b" ", plans::fill_row(image, ask, i, others));
     lines::named(b" ", differing(places, others) as u64);
     print_front(places);
 }
 
 // `fill K P I COUNT`: row I, in so many places.
-pub fn show_row(image: &[u8], n: &[u64; 8]) {
+pub fn show_row(image: &[u8], ask: Ask, n: &[u64; 8]) {
     let mut places = [77i64; 8192];
     let mut others = [77i64; 8192];
     let count = bytes::within(n[4] as usize, 8192);
-    row_in(image, n, &mut places[..count], &mut others[..count]);
+    row_in(image, ask, n[3], &mut places[..count], &mut others[..count]);
 }
 
 // The energy, then the weight and how many meters were repaired, and the plan.
-fn decode_in(image: &[u8], n: &[u64; 8], bits: &[u8], plan: &mut [u8]) {
+fn decode_in(image: &[u8], ask: Ask, bits: &[u8], plan: &mut [u8]) {
     lines::words(b":");
-    lines::answer(plans::energy(image, asked(n), bits));
-    lines::decoded(plans::decode(image, asked(n), bits, plan));
+    lines::answer(plans::energy(image, ask, bits));
+    lines::decoded(plans::decode(image, ask, bits, plan));
     bytes::print(plan);
 }
 
 // `decode K P BITS COUNT`: the bits, with so many bytes for a plan.
-pub fn show_decode(image: &[u8], n: &[u64; 8], line: &[u8]) {
+pub fn show_decode(image: &[u8], ask: Ask, n: &[u64; 8], line: &[u8]) {
     let mut bits = [7u8; 128];
     let mut plan = [7u8; 128];
     let given = words::digits_of(line, &mut bits);
     let count = bytes::within(n[4] as usize, 128);
-    decode_in(image, n, bytes::front_of(&bits, given), &mut plan[..count]);
+    decode_in(
+        image,
+        ask,
+        bytes::front_of(&bits, given),
+        &mut plan[..count],
+    );
 }
 
 // The number returned, and the bits.
-fn encode_in(image: &[u8], n: &[u64; 8], plan: &[u8], bits: &mut [u8]) {
-    lines::named(b": ", plans::encode(image, asked(n), plan, bits));
+fn encode_in(image: &[u8], ask: Ask, plan: &[u8], bits: &mut [u8]) {
+    lines::named(b": ", plans::encode(image, ask, plan, bits));
     bytes::print(bits);
 }
 
 // `encode K P PLAN COUNT`: the plan, with so many bytes for bits.
-pub fn show_encode(image: &[u8], n: &[u64; 8], line: &[u8]) {
+pub fn show_encode(image: &[u8], ask: Ask, n: &[u64; 8], line: &[u8]) {
     let mut plan = [7u8; 128];
     let mut bits = [7u8; 128];
     let given = words::digits_of(line, &mut plan);
     let count = bytes::within(n[4] as usize, 128);
-    encode_in(image, n, bytes::front_of(&plan, given), &mut bits[..count]);
+    encode_in(
+        image,
+        ask,
+        bytes::front_of(&plan, given),
+        &mut bits[..count],
+    );
 }

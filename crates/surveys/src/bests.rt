@@ -1,8 +1,8 @@
 // Tries all plans or all assignments, and finds the least energy.
 ghost use Prim.Native.Nat.{_≤_};
-use crate::asks;
 use crate::bytes;
 use crate::lines;
+use plans::Ask;
 use plans::Decoded;
 use plans::Number;
 
@@ -60,6 +60,7 @@ fn fill(bytes: &mut [u8], number: u64, base: u64)
 fn try_one(
     image: &[u8],
     letter: u8,
+    ask: Ask,
     n: &[u64; 8],
     plan: &mut [u8],
     bits: &mut [u8],
@@ -68,10 +69,10 @@ fn try_one(
     let base = n[5] % 10 + 1;
     if letter == b'p' {
         fill(plan, number, base);
-        return plans::encode(image, asks::asked(n), plan, bits);
+        return plans::encode(image, ask, plan, bits);
     }
     fill(bits, number, base);
-    number_of(plans::decode(image, asks::asked(n), bits, plan))
+    number_of(plans::decode(image, ask, bits, plan))
 }
 
 // How many there are, how many are plans, how many give 12, and the least energy.
@@ -86,15 +87,15 @@ fn print_best(count: u64, accepted: u64, refused: u64, least: i64) {
 }
 
 // Tries as many as the line says. Bits that a refusal left as they were are no code (7 is no bit) or that of an earlier plan.
-fn try_all(image: &[u8], letter: u8, n: &[u64; 8], plan: &mut [u8], bits: &mut [u8]) {
+fn try_all(image: &[u8], letter: u8, ask: Ask, n: &[u64; 8], plan: &mut [u8], bits: &mut [u8]) {
     let count = bytes::within(n[6] as usize, 100000);
     let mut accepted: u64 = 0;
     let mut refused: u64 = 0;
     let mut least: i64 = -1;
     let mut k: usize = 0;
     while k < count {
-        let number = try_one(image, letter, n, plan, bits, k as u64);
-        least = lower(least, plans::energy(image, asks::asked(n), bits));
+        let number = try_one(image, letter, ask, n, plan, bits, k as u64);
+        least = lower(least, plans::energy(image, ask, bits));
         accepted = counted(accepted, number, 0);
         refused = counted(refused, number, 12);
         k += 1;
@@ -103,10 +104,17 @@ fn try_all(image: &[u8], letter: u8, n: &[u64; 8], plan: &mut [u8], bits: &mut [
 }
 
 // `plans K P BYTES BITS TOP COUNT`: all plans of so many bytes, each 0 to TOP, of which there are COUNT. `minimum` with the same numbers: all assignments.
-pub fn show(image: &[u8], letter: u8, n: &[u64; 8]) {
+pub fn show(image: &[u8], letter: u8, ask: Ask, n: &[u64; 8]) {
     let mut plan = [7u8; 128];
     let mut bits = [7u8; 128];
     let length = bytes::within(n[3] as usize, 128);
     let count = bytes::within(n[4] as usize, 128);
-    try_all(image, letter, n, &mut plan[..length], &mut bits[..count]);
+    try_all(
+        image,
+        letter,
+        ask,
+        n,
+        &mut plan[..length],
+        &mut bits[..count],
+    );
 }

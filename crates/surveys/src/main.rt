@@ -11,6 +11,7 @@ mod words;
 ghost use Prim.Native.Nat.{_≤_};
 ghost use lib.ListN.{length};
 use libc::STDIN_FILENO;
+use plans::Ask;
 
 const NEWLINE: u8 = 10;
 
@@ -30,18 +31,18 @@ fn line_end(text: &[u8], start: usize) -> usize
 }
 
 // What the library answers, by the first letter of the line; there is nothing to answer to a remark.
-fn answer(image: &mut [u8], letter: u8, n: &[u64; 8], line: &[u8]) {
+fn answer(image: &mut [u8], letter: u8, ask: Ask, n: &[u64; 8], line: &[u8]) {
     match letter {
         b'a' | b'b' | b'r' => edits::show(image, letter, n),
         b'c' => edits::circle(image, n),
         b's' => edits::set(image, n),
         b't' => edits::try_byte(image, n),
         b'i' => readings::show(image),
-        b'k' => asks::show_kind(image, n),
-        b'f' => asks::show_row(image, n),
-        b'd' => asks::show_decode(image, n, line),
-        b'e' => asks::show_encode(image, n, line),
-        b'm' | b'p' => bests::show(image, letter, n),
+        b'k' => asks::show_kind(image, ask),
+        b'f' => asks::show_row(image, ask, n),
+        b'd' => asks::show_decode(image, ask, n, line),
+        b'e' => asks::show_encode(image, ask, n, line),
+        b'm' | b'p' => bests::show(image, letter, ask, n),
         _ => (),
     }
 }
@@ -58,7 +59,8 @@ fn carry_out(image: &mut [u8], lent: usize, line: &[u8]) -> usize
         lines::words(b"\n");
         return bytes::within(n[1] as usize, image.len());
     }
-    answer(&mut image[..lent], letter, &n, line);
+    let ask = asks::asked(&n);
+    answer(&mut image[..lent], letter, ask, &n, line);
     lines::words(b"\n");
     lent
 }

@@ -29,6 +29,9 @@ within-requires c κs = search needs
 returns : tie.Need-returns
 returns c = search needs
 
+asked-requires : tie.Need-asked-requires
+asked-requires c κs = search needs
+
 slice-relend-prefix-answer : tie.Need-slice-relend-prefix-answer
 slice-relend-prefix-answer c = search needs
 
@@ -62,6 +65,7 @@ carry-out-spec =
     array-read-within
     within-requires
     returns
+    asked-requires
     slice-relend-prefix-answer
     slice-aggregate-answer
     answer-requires

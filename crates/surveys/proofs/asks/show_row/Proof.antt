@@ -11,6 +11,9 @@ element-copy-out-within c = search needs
 within-requires : tie.Need-within-requires
 within-requires c κs = search needs
 
+element-copy-out-row-in : tie.Need-element-copy-out-row-in
+element-copy-out-row-in c = search needs
+
 array-borrow-prefix-places : tie.Need-array-borrow-prefix-places
 array-borrow-prefix-places c = search needs
 
@@ -35,6 +38,7 @@ show-row-spec =
     (tie.spec
     element-copy-out-within
     within-requires
+    element-copy-out-row-in
     array-borrow-prefix-places
     slice-aggregate-row-in
     array-borrow-prefix-others

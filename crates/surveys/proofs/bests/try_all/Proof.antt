@@ -6,10 +6,10 @@ use Rattle.surveys.proofs.bests.try_all.Statement.{statement}
 use Rattle.surveys.proofs.bests.try_all.Tie as tie
 
 abbrev Inv-loop : tie.InvT-loop
-Inv-loop image letter n plan₀ bits₀ count accepted₀ refused₀ least₀ k₀ plan bits accepted refused least k = (k ≤ count) × (length plan ≡ length plan₀) × (length bits ≡ length bits₀)
+Inv-loop image letter ask n plan₀ bits₀ count accepted₀ refused₀ least₀ k₀ plan bits accepted refused least k = (k ≤ count) × (length plan ≡ length plan₀) × (length bits ≡ length bits₀)
 
 abbrev μ-loop : tie.MeasureT-loop
-μ-loop image letter n plan₀ bits₀ count accepted₀ refused₀ least₀ k₀ plan bits accepted refused least k = count - k
+μ-loop image letter ask n plan₀ bits₀ count accepted₀ refused₀ least₀ k₀ plan bits accepted refused least k = count - k
 
 element-copy-out-within : tie.Need-element-copy-out-within Inv-loop μ-loop
 element-copy-out-within c = search needs
@@ -22,9 +22,6 @@ loop-holds c = search needs
 
 try-one-requires : tie.Need-try-one-requires Inv-loop μ-loop
 try-one-requires c κs = search needs
-
-asked-requires : tie.Need-asked-requires Inv-loop μ-loop
-asked-requires c κs = search needs
 
 energy-requires : tie.Need-energy-requires Inv-loop μ-loop
 energy-requires c κs = search needs
@@ -69,7 +66,6 @@ try-all-spec =
     within-requires
     loop-holds
     try-one-requires
-    asked-requires
     energy-requires
     lower-requires
     counted-requires
