@@ -17,8 +17,9 @@ const MOST_LINKS: usize = 256;
 // The two implementations, called alike
 // ---------------------------------------------------------------------------------------------------------------------
 
+/// With no margin.
 fn asks(kind: u64, parameter: u64) -> Ask {
-    Ask { kind, parameter }
+    Ask { kind, parameter, margin: 0 }
 }
 
 /// Calls through pointers: neither implementation can be inlined into the measurement.
@@ -253,6 +254,16 @@ impl Random {
         }
     }
 
+    fn margin(&mut self) -> u64 {
+        match self.below(8) {
+            0 => 1_000_000,
+            1 => 1_000_001,
+            2 => self.from(1, 1_000_000),
+            3 => self.from(1, 9),
+            _ => 0,
+        }
+    }
+
     fn shuffle<T>(&mut self, items: &mut [T]) {
         for last in (1..items.len()).rev() {
             items.swap(last, self.below(last + 1));
@@ -457,10 +468,13 @@ impl Problem<'_> {
     }
 }
 
+/// The numbers that a call may be refused by.
+const REFUSALS: [usize; 13] = [1, 2, 3, 4, 5, 6, 7, 8, 9, 10, 11, 12, 18];
+
 /// How often something that should happen did; a check that never met it has checked nothing.
 #[derive(Default)]
 struct Tally {
-    calls: [u64; 13],
+    calls: [u64; REFUSALS[REFUSALS.len() - 1] + 1],
 }
 
 impl Tally {
@@ -568,11 +582,12 @@ fn every_call(survey: &Survey, problem: Problem, random: &mut Random, tally: &mu
 }
 
 fn random_ask(random: &mut Random) -> Ask {
-    match random.below(3) {
+    let ask = match random.below(3) {
         0 => asks(CHANNELS, random.from(1, 16)),
         1 => asks(GROUPS, random.from(2, 16)),
         _ => asks(TREE, random.from(1, 47)),
-    }
+    };
+    Ask { margin: random.margin(), ..ask }
 }
 
 /// A single byte altered: often in the header and often to a small number, where a chain may go on.
@@ -617,7 +632,7 @@ fn check_spoilt_images(random: &mut Random, tally: &mut Tally) {
     }
 }
 
-/// Images of other lengths, kinds and parameters at and outside their limits.
+/// Images of other lengths, kinds, parameters and margins at and outside their limits.
 fn check_refusals(random: &mut Random, tally: &mut Tally) {
     let one = Survey::random(1, 0, random);
     let some = Survey::random(7, 12, random);
@@ -627,6 +642,12 @@ fn check_refusals(random: &mut Random, tally: &mut Tally) {
         for kind in numbers {
             for parameter in numbers {
                 every_call(survey, Problem { image: &survey.image, ask: asks(kind, parameter) }, random, tally);
+            }
+        }
+        for kind in 0..=4 {
+            for margin in [1, 999_999, 1_000_000, 1_000_001, 1 << 32, u64::MAX] {
+                let ask = Ask { margin, ..asks(kind, 2) };
+                every_call(survey, Problem { image: &survey.image, ask }, random, tally);
             }
         }
         for length in [0, 1, 16, IMAGE - 1, IMAGE + 1, 2 * IMAGE] {
@@ -671,7 +692,7 @@ fn check_small_sites(random: &mut Random, tally: &mut Tally) {
         let survey = Survey::random(meters, random.below(20), random);
         let ask = random_ask(random);
         check_problem(&survey, ask, 4, random, tally);
-        let ask = asks(random.from(1, 3), random.from(1, 4));
+        let ask = Ask { margin: random.margin(), ..asks(random.from(1, 3), random.from(1, 4)) };
         check_problem(&survey, ask, 8, random, tally);
     }
 }
@@ -746,8 +767,8 @@ fn check(cases: &[Case], random: &mut Random) {
     for meters in [3, 12, 24, 48] {
         check_edits(meters, 2800, random, &mut tally);
     }
-    let [given, refused @ ..] = tally.calls;
-    println!("same in {given} calls answered and in those refused by 1 to 12: {refused:?}");
+    let refused = REFUSALS.map(|number| tally.calls[number]);
+    println!("same in {} calls answered and in those refused by {REFUSALS:?}: {refused:?}", tally.calls[0]);
     same(format_args!("whether a refusal was never met"), refused.contains(&0), false);
     println!("checked in {:.1} s\n", start.elapsed().as_secs_f64());
 }

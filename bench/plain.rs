@@ -1,6 +1,6 @@
 //! The calls of include/meterplan.h in plain Rust, for comparison with the proved library.
 //!
-//! Written from the user's contract alone, quoted below as 01. Every call is stateless: it checks all that it is lent,
+//! Written from the user's contract alone, quoted below as 01, and the requests after it, 02. Every call is stateless: it checks all that it is lent,
 //! answers, and forgets. Inside, meters, channels and groups count from 0.
 
 #![forbid(unsafe_code)]
@@ -12,13 +12,14 @@ const MOST_METERS: usize = 48;
 const MOST_CHANNELS: usize = 16;
 const MOST_DEPTH: usize = MOST_METERS / 2;
 const MOST_BITS: usize = 8192;
+const MOST_MARGIN: u64 = 1_000_000;
 
 /// Two-byte fields of the header.
 const FIRST_LINK: usize = 2;
 const FIRST_FREE: usize = 4;
 const COUNT: usize = 6;
 
-/// The numbers of 01, "Returned on refusal".
+/// The numbers of 01, "Returned on refusal", and those that 02 adds.
 const BAD_IMAGE: u64 = 1;
 const BAD_ENDS: u64 = 2;
 const BAD_WEIGHT: u64 = 3;
@@ -31,6 +32,7 @@ const BAD_LENGTH: u64 = 9;
 const BAD_ROW: u64 = 10;
 const BAD_VALUE: u64 = 11;
 const NO_PLAN: u64 = 12;
+const BAD_MARGIN: u64 = 18;
 
 // ---------------------------------------------------------------------------------------------------------------------
 // The site image
@@ -268,6 +270,7 @@ fn try_remove(image: &mut [u8], u: u64, v: u64) -> Result<(), u64> {
 pub struct Ask {
     pub kind: u64,
     pub parameter: u64,
+    pub margin: u64,
 }
 
 enum Kind {
@@ -315,7 +318,7 @@ impl Shape {
 struct Problem<'a> {
     site: Site<'a>,
     kind: Kind,
-    /// A.
+    /// A, the margin included.
     penalty: i64,
     bits: usize,
 }
@@ -332,6 +335,11 @@ fn read_problem<'a>(image: &[u8], ask: Ask, room: &'a mut Room) -> Result<Proble
         }
         _ => return Err(BAD_KIND),
     };
+    // "18 margin too large, after 7"
+    if ask.margin > MOST_MARGIN {
+        return Err(BAD_MARGIN);
+    }
+    let penalty = penalty + ask.margin as i64;
     if bits > MOST_BITS {
         return Err(TOO_MANY_BITS);
     }

@@ -142,7 +142,7 @@ def from_directory():
 
 
 class Ask(ctypes.Structure):
-    _fields_ = [("kind", ctypes.c_uint64), ("parameter", ctypes.c_uint64)]
+    _fields_ = [("kind", ctypes.c_uint64), ("parameter", ctypes.c_uint64), ("margin", ctypes.c_uint64)]
 
 
 class Number(ctypes.Structure):
@@ -150,7 +150,7 @@ class Number(ctypes.Structure):
 
 
 def call(name, *more, gives=Number):
-    """A call of the C interface with the image, kind and parameter of the input."""
+    """A call of the C interface with the image, kind and parameter of the input, and margin 0."""
     function = ctypes.CDLL(LIBRARY)["meterplan_" + name]
     function.restype = gives
     answer = function(INPUT[:2064], ctypes.c_size_t(2064), Ask(*INPUT[2064:]), *more)

@@ -1,4 +1,4 @@
-/* Four meters in a square, two radio channels: the table's head, a plan's code, a damaged bit, and the plan repaired. */
+/* Four meters in a square, two radio channels: the table's head, a plan's code, a damaged bit, the plan repaired, and a margin on the penalty. */
 #include <inttypes.h>
 #include <stdio.h>
 #include <stdlib.h>
@@ -56,5 +56,9 @@ int main(void)
     expect("decode", decoded.refusal);
     print_bytes("plan", plan, sizeof plan);
     printf("weight %" PRIu64 ", repaired %" PRIu64 "\n", decoded.weight, decoded.repaired);
+
+    ask.margin = 10; /* above the annealer's noise */
+    printf("margin 10: penalty %" PRId64, number("penalty", meterplan_penalty(image, sizeof image, ask)));
+    printf(", damaged: energy %" PRId64 "\n", number("energy", meterplan_energy(image, sizeof image, ask, bits, sizeof bits)));
     return 0;
 }

@@ -6,14 +6,15 @@
  * is there. A refused call alters nothing, and gives 0 for all its other values. A slice is a pointer and a length. The
  * lengths are part of the input: a wrong one is a refusal. Only the pointers are believed: each must be to that many
  * elements (not null, even where the length is 0), and what a call may alter must not overlap anything else lent to it.
- * What is asked for is a meterplan_ask, by value: "kind" and "parameter" below are its fields. Nothing is kept between
- * calls, and nothing is allocated.
+ * What is asked for is a meterplan_ask, by value: "kind", "parameter" and "margin" below are its fields. Nothing is kept
+ * between calls, and nothing is allocated.
  *
  * What a table's numbers mean: the energy of an assignment is the constant, plus the number of each bit that is set, plus
  * the number of each pair i < j whose bits are both set, once. (A symmetric matrix has half of a pair's number in each of
- * its two places.)
+ * its two places.) A margin is added to the penalty A of the table: with groups and trees the bits of plans keep their
+ * energies, all below A, and all others have A or more; with channels a meter without exactly one bit set costs more.
  *
- * Of several refusals the lowest number is given, except that 10 comes before 9:
+ * Of several refusals the first of this list is given: the lowest number, except that 18 follows 7, and 9 follows 10.
  *
  *  1 image    not 2,064 bytes, or breaks a rule of images (meterplan_begin: length only)
  *  2 ends     meterplan_add, meterplan_remove: an end is 0 or above the number of meters, or both are equal
@@ -22,9 +23,10 @@
  *  5 absent   meterplan_remove: no such link
  *  6 full     meterplan_add: 256 links are there
  *  7 kind     kind not 1..3, parameter outside its limits, or kind 3 with one meter (meterplan_begin: meters not 1..48)
+ * 18 margin   margin above 1,000,000
  *  8 bits     more than 8,192 bits
- *  9 length   out shorter than the row; bits or plan of another length than needed
  * 10 row      row number at or above the number of bits
+ *  9 length   out shorter than the row; bits or plan of another length than needed
  * 11 value    meterplan_energy, meterplan_decode: a lent bit is neither 0 nor 1
  * 12 no plan  meterplan_code: the bytes are no plan; meterplan_decode: the bits of groups or a tree code none
  *
@@ -48,14 +50,17 @@ extern "C" {
 /* No table has more bits; no plan has more bytes. */
 #define METERPLAN_MOST_BITS 8192
 #define METERPLAN_MOST_METERS 48
+/* No margin is greater. */
+#define METERPLAN_MOST_MARGIN 1000000
 
 /* Kinds; beside each what its parameter is. */
 #define METERPLAN_CHANNELS 1 /* number of channels, 1..16 */
 #define METERPLAN_GROUPS 2   /* number of groups, 2..16 */
 #define METERPLAN_TREE 3     /* greatest number of neighbours, 1..47 */
 
-/* What is asked for. Name the fields of one that you make: later versions append fields, and one not named is 0. */
-typedef struct { uint64_t kind; uint64_t parameter; } meterplan_ask;
+/* What is asked for. Name the fields of one that you make: later versions append fields, and one not named is 0. It
+ * crosses by value, so compile with the header of the library that you link. */
+typedef struct { uint64_t kind; uint64_t parameter; uint64_t margin; } meterplan_ask;
 /* What a call gives: all but the refusal is 0 where that is not 0. */
 typedef struct { uint64_t refusal; int64_t value; } meterplan_number;
 typedef struct { uint64_t refusal; uint64_t weight; uint64_t repaired; } meterplan_decoded;
@@ -66,7 +71,7 @@ uint64_t meterplan_begin(uint8_t *image, size_t image_len, uint64_t meters);
 uint64_t meterplan_add(uint8_t *image, size_t image_len, uint64_t u, uint64_t v, uint16_t weight);
 uint64_t meterplan_remove(uint8_t *image, size_t image_len, uint64_t u, uint64_t v);
 
-/* Of the table: its number of bits, its penalty A, its constant. Refused by 1, 7, 8. */
+/* Of the table: its number of bits, its penalty A with the margin on it, its constant. Refused by 1, 7, 18, 8. */
 meterplan_number meterplan_bits(const uint8_t *image, size_t image_len, meterplan_ask ask);
 meterplan_number meterplan_penalty(const uint8_t *image, size_t image_len, meterplan_ask ask);
 meterplan_number meterplan_constant(const uint8_t *image, size_t image_len, meterplan_ask ask);

@@ -1,5 +1,5 @@
 #!/usr/bin/env python3
-"""What document 01 says of the lines of surveys/stdin: a model written from 01 alone, which shares nothing with the library.
+"""What documents 01 and 02 say of the lines of surveys/stdin: a model written from these alone, which shares nothing with the library.
 
     crates/surveys/model.py < crates/surveys/stdin > crates/surveys/stdout
 
@@ -9,6 +9,7 @@ import itertools
 import sys
 
 LENGTH, RECORDS = 2064, 256
+MOST_MARGIN = 1000000
 
 
 # ---- the site image
@@ -129,10 +130,11 @@ def remove(b, u, v):
 # ---- the kinds
 
 class Problem:
-    """A kind with its parameter, for N and links. `squares` are (factor, constant, coefficients by bit), `products` (factor, bit, bit)."""
+    """A kind with its parameter, for N and links; the margin is "added to A in all kinds". `squares` are (factor, constant, coefficients by bit), `products` (factor, bit, bit)."""
 
-    def __init__(self, n, links, parameter):
+    def __init__(self, n, links, parameter, margin):
         self.n, self.links, self.p = n, links, parameter
+        self.a = self.penalty() + margin
         self.squares, self.products = [], []
         self.build()
 
@@ -170,7 +172,6 @@ class Choices(Problem):
 
     def build(self):
         self.bits = self.n * self.p
-        self.a = self.penalty()
         for v in range(1, self.n + 1):
             self.one_hot([self.bit(v, i) for i in range(1, self.p + 1)])
         self.build_rest()
@@ -249,11 +250,13 @@ class Groups(Choices):
 class Tree(Problem):
     least, most = 1, 47
 
+    def penalty(self):
+        return 1 + sum(w for *_, w in self.links)
+
     def build(self):
         self.deepest = d = self.n // 2
         self.arcs = [arc for u, v, w in self.links for arc in ((u, v, w), (v, u, w))]
         self.bits = self.n * (d + 1) + len(self.arcs) * d + self.n * self.p
-        self.a = 1 + sum(w for *_, w in self.links)
         meters, depths, counts = range(1, self.n + 1), range(1, d + 1), range(1, self.p + 1)
         self.one_hot([self.at_depth(v, 0) for v in meters])
         for v in meters:
@@ -324,14 +327,16 @@ class Tree(Problem):
 KINDS = {1: Channels, 2: Groups, 3: Tree}
 
 
-def problem(b, kind, parameter):
-    """The problem, or the number of the refusal."""
+def problem(b, kind, parameter, margin):
+    """The problem, or the number of the refusal: 18 "margin too large, after 7"."""
     s = site(b)
     if s is None:
         return 1
     if kind not in KINDS or not KINDS[kind].least <= parameter <= KINDS[kind].most or kind == 3 and s[0] == 1:
         return 7
-    p = KINDS[kind](*s, parameter)
+    if margin > MOST_MARGIN:
+        return 18
+    p = KINDS[kind](*s, parameter, margin)
     return 8 if p.bits > 8192 else p
 
 
@@ -405,7 +410,7 @@ def best(p, name, length, bits, top, count):
     return f'of {count} plans {plans}, give 12 {count - plans}{least}'
 
 
-def answer(b, words):
+def answer(b, words, margin):
     """What the library is to answer, None where it answers nothing; b becomes what it leaves."""
     name, n = words[0], [int(w) for w in words[1:] if w.isdigit()]
     if name in ('begin', 'add', 'remove'):
@@ -420,7 +425,7 @@ def answer(b, words):
     if name == 'set':
         b[n[0]] = n[1]
         return None
-    p = problem(b, n[0], n[1])
+    p = problem(b, n[0], n[1], margin)
     if name == 'kind':
         return kind(p)
     if name == 'fill':
@@ -431,15 +436,17 @@ def answer(b, words):
 
 
 def main():
-    image, lent = bytearray(LENGTH + 1), LENGTH
+    image, lent, margin = bytearray(LENGTH + 1), LENGTH, 0
     for line in sys.stdin.read().splitlines():
         words = line.split(' ')
         said = None
         if words[0] == 'lend':
             lent = int(words[1])
+        elif words[0] == 'with':
+            margin = int(words[1])
         elif line and words[0] != '#':
             b = bytearray(image[:lent])
-            said = answer(b, words)
+            said = answer(b, words, margin)
             image[:lent] = b
         print(line if said is None else f'{line}: {said}')
 

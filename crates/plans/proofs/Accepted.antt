@@ -30,7 +30,7 @@ use Rattle.plans.specs.Best.{Accepted}
 use Rattle.plans.proofs.ByKind.{sound, asked-from, asked-small}
 use Rattle.plans.proofs.Earlier.{Alike, alike-none, stops-some, image-numbered}
 use Rattle.plans.proofs.Refusing.{are-bits, row-within}
-use Rattle.plans.proofs.Posed.{good-survey, good-limits, good-count}
+use Rattle.plans.proofs.Posed.{good-survey, good-limits, good-margin, good-count}
 
 -- a valid image, limits that hold, and at most 8,192 bits
 pub record Facts (s : List ℕ) (a : Ask) : Type 0 where
@@ -44,7 +44,7 @@ unfolding acceptNumberIn instanceOf
 accepted-facts s a ok =
     let v = good-survey s a ok in
     let l = good-limits s a ok in
-    record { survey = v; limits = l; few = good-count s a ok; is-sound = sound (siteIn s) v (penaltyAsked (siteIn s) a) (kindOf a) l (asked-small (siteIn s) v a) }
+    record { survey = v; limits = l; few = good-count s a ok; is-sound = sound (siteIn s) v (penaltyAsked (siteIn s) a) (kindOf a) l (asked-small (siteIn s) v a (good-margin s a ok)) }
 
 -- the same where the kind is known: k
 pub record Asked (s : List ℕ) (a : Ask) (k : Kind) : Type 0 where
@@ -155,7 +155,7 @@ module _ (s : List ℕ) (a : Ask) (i room : ℕ) where
   abbrev J : Instance
   J = instanceIn s a
 
-  -- what is refused by 1, 7 or 8 is refused as a row
+  -- what is refused by 1, 7, 18 or 8 is refused as a row
   row-stopped : (acceptNumberIn s a ≡ 0 → ⊥) → rowNumberIn s a i room ≡ acceptNumberIn s a
   unfolding acceptNumberIn rowNumberIn
   row-stopped n = stops-some (imageTests s a) _ refl n .by _

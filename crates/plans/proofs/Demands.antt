@@ -41,14 +41,15 @@ use Rattle.plans.specs.declared.Ask.{Ask}
 use Rattle.plans.specs.declared.Kind.the-variants.{Channels, Groups, Tree}
 use Rattle.plans.specs.declared.Number.the-variants.{Value}
 use Rattle.plans.specs.declared.Decoded.the-variants.{Plan}
-use Rattle.plans.specs.Kinds.{limitsHold, penaltyOf, penaltyAsked, instanceBy}
+use Rattle.plans.specs.Kinds.{kindOf, limitsHold, penaltyOf, penaltyAsked, instanceBy, instanceOf}
 use Rattle.plans.specs.Refusals.{askTests, countTests, kindTests, siteIn, imageTests, rowTests, energyTests, codeTests, decodeTests}
-use Rattle.plans.specs.Calls.{instanceIn, acceptNumberIn, constantAnswerIn, rowNumberIn, rowPartIn, rowAfterIn, energyNumberIn, energyAnswerIn, codeNumberIn, codeAfterIn, decodeNumberIn, decodeAnswerIn, decodeAfterIn}
-use Rattle.plans.specs.Best.{First, InOrder, risesFrom, Accepted}
+use Rattle.plans.specs.Calls.{instanceIn, acceptNumberIn, penaltyAnswerIn, constantAnswerIn, rowNumberIn, rowPartIn, rowAfterIn, energyNumberIn, energyAnswerIn, codeNumberIn, codeAfterIn, decodeNumberIn, decodeAnswerIn, decodeAfterIn}
+use Rattle.plans.specs.Best.{First, InOrder, risesFrom, Accepted, SamePlans}
 use Rattle.plans.proofs.Tried.{refusal-first}
+use Rattle.plans.proofs.ByKind.{penalty-is, same-plans}
 use Rattle.plans.proofs.Accepted.{Facts, accepted-facts, Asked, asked, is-channels, is-groups, is-tree, row-accepts, energy-accepts, code-accepts, decode-accepts, refused-exactly, row-taken}
 
--- ---- demand 1: each call "gives its result or the first refusal that applies". The lists are 01's table, in the order of trial; `given-applies` and `lowest-given`, Tried.antt, say what follows of any such list
+-- ---- demand 1: each call "gives its result or the first refusal that applies". The lists are 01's table with 02's additions, in the order of trial; `given-applies` and `lowest-given`, Tried.antt, say what follows of any such list
 
 pub begin-first : (s : List ℕ) (n : ℕ) → First (beginTests s n) (beginRefusal s n) × InOrder (beginTests s n)
 unfolding beginRefusal risesFrom
@@ -126,6 +127,11 @@ module _ (s : List ℕ) (a : Ask) (ok : Accepted s a) where
   unfolding energyAnswerIn
   energy-given x b = rw (energy-accepts s a ok x b, table-energy x b)
 
+  -- A is 01's, with "a margin from 0 to 1,000,000 that is added to A in all kinds" (02, S-7), and the call gives it: "every threshold means the raised A"
+  pub penalty-given : (I .penalty ≡ penaltyOf (siteIn s) (kindOf a) + a .margin) × (penaltyAnswerIn s a ≡ Value (pos (I .penalty)))
+  unfolding instanceOf penaltyAsked penaltyAnswerIn
+  penalty-given = (sym (penalty-is _ (siteIn s) (kindOf a)), rw ok)
+
   -- "The sum of the absolute values of a table's numbers is below 2^54"
   pub table-small : tableAbs (tableIs I) < 2 ^ 54
   table-small = facts .is-sound .small
@@ -182,6 +188,11 @@ module _ (s : List ℕ) (a : Ask) (ok : Accepted s a) where
     -- "group or tree bits code none": such an assignment is refused by 12, and no other
     pub none-refused : (x r : List ℕ) → Assignment (I .bits) x → length r ≡ I .planBytes → (decodeNumberIn s a x r ≡ 12) ↔ (CodesPlan I x → ⊥)
     none-refused x r b h = refused-exactly s a ok x r b h (k .decides x)
+
+-- what a margin leaves alone: all but A and the energy
+pub margin-leaves : (s : List ℕ) (a b : Ask) → kindOf a ≡ kindOf b → SamePlans (instanceIn s a) (instanceIn s b)
+unfolding instanceOf
+margin-leaves s a b e = rw e (same-plans _ _ (siteIn s) (kindOf b))
 
 -- "An empty part is given only on refusal"
 pub row-empty : (s : List ℕ) (a : Ask) (i room : ℕ) → rowPartIn s a i room ≡ [] → rowNumberIn s a i room ≡ 0 → ⊥

@@ -62,11 +62,11 @@ none-first ((k, false) ∷ e) t n z = none-first e t (n .1) z
 
 pub ask-numbered : (N : ℕ) (a : Ask) → Numbered (askTests N a)
 unfolding askTests
-ask-numbered N a = (omega arith, tt)
+ask-numbered N a = (omega arith, (omega arith, tt))
 
 pub kind-numbered : (s : Site) (a : Ask) → Numbered (kindTests s a)
 unfolding kindTests askTests countTests
-kind-numbered s a = (omega arith, (omega arith, tt))
+kind-numbered s a = (omega arith, (omega arith, (omega arith, tt)))
 
 pub image-numbered : (s : List ℕ) (a : Ask) → Numbered (imageTests s a)
 unfolding imageTests

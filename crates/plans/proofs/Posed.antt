@@ -1,5 +1,5 @@
--- The problem that an image and what is asked pose: the tests for 7 and 8, what `pose` promises, and what that says of a call's image. Assumes nothing.
-use Prim.Native.Nat.{ℕ, zero, suc, _≤_}
+-- The problem that an image and what is asked pose: the tests for 7, 18 and 8, what `pose` promises, and what that says of a call's image. Assumes nothing.
+use Prim.Native.Nat.{ℕ, zero, suc, _+_, _≤_, _<_}
 use mathlib.Core.Bool.{Bool, true}
 use mathlib.Core.Path.{_≡_, refl, sym, ap, _∙_, subst}
 use mathlib.Core.List.{List, [], _++_}
@@ -24,12 +24,12 @@ use Rattle.plans.specs.declared.Problem.{Problem}
 use Rattle.plans.specs.declared.posing.Posed.{Posed}
 use Rattle.plans.specs.declared.posing.Posed.the-variants.{Accepted, Refused}
 use Rattle.plans.specs.Kinds.{Site, siteOf, kindOf, limitsHold, penaltyOf, penaltyAsked, instanceBy, instanceOf}
-use Rattle.plans.specs.Refusals.{MOST-BITS, askTests, countTests, kindTests, siteIn, imageTests}
+use Rattle.plans.specs.Refusals.{MOST-BITS, MOST-MARGIN, askTests, countTests, kindTests, siteIn, imageTests}
 use Rattle.plans.specs.Calls.{instanceIn, acceptNumberIn}
 use Rattle.plans.specs.Inner.{problemOf, posedBy, instanceFor, mostPenalty, Ready}
 use Rattle.plans.proofs.Earlier.{Alike, Stops, alone, alike-none, stops-some, none-first, ask-numbered, image-numbered, image-alike, image-stops}
-use Rattle.plans.proofs.Refusing.{ask-limits, count-few}
-use Rattle.plans.proofs.ByKind.{asked-small, penalty-is, plan-bytes}
+use Rattle.plans.proofs.Refusing.{ask-limits, ask-margin, count-few}
+use Rattle.plans.proofs.ByKind.{most-small, asked-small, penalty-is, plan-bytes}
 
 -- ---- the two answers
 
@@ -63,6 +63,11 @@ module _ (s : Site) (a : Ask) (r : ℕ) (h : r ≡ refusal (askTests (s .meters)
     unfolding instanceOf
     bits-asked = rw (← named) (bits _)
 
+    -- the kind's own A and the margin fit together
+    pub raised-fits : Survey (s .meters) (s .links) → (B : ℕ) → B ≡ penaltyOf s K → B + a .margin < 18446744073709551616
+    unfolding penaltyAsked
+    raised-fits v B e = omega (arith, e, ap (penaltyOf s) named, asked-small s v a (ask-margin (s .meters) a (sym h ∙ z)), most-small (kindOf a))
+
     kind-alike : (t : List (ℕ × Bool)) → refusal (askTests (s .meters) a ++ t) ≡ refusal t
     kind-alike = alike-none (askTests (s .meters) a) (ask-numbered (s .meters) a) (sym h ∙ z)
 
@@ -75,9 +80,9 @@ module _ (s : Site) (a : Ask) (r : ℕ) (h : r ≡ refusal (askTests (s .meters)
       pub posed-many : (q ≡ 0 → ⊥) → Refused q ≡ posedBy (refusal (kindTests s a)) s a
       posed-many n = rw (count-decides ∙ sym g) (posed-refused q s a n)
 
-      pub posed-well : q ≡ 0 → (A : ℕ) → A ≡ penaltyOf s K → (n : ℕ) → n ≡ length (s .links) → Accepted (record { kind = K; meters = s .meters; penalty = A }) b n ≡ posedBy (refusal (kindTests s a)) s a
+      pub posed-well : q ≡ 0 → (A B : ℕ) → A ≡ B + a .margin → B ≡ penaltyOf s K → (n : ℕ) → n ≡ length (s .links) → Accepted (record { kind = K; meters = s .meters; penalty = A }) b n ≡ posedBy (refusal (kindTests s a)) s a
       unfolding penaltyAsked
-      posed-well y A e n f = rw (f, count-decides ∙ sym g ∙ y, ← bits-asked, e, named) refl
+      posed-well y A B m e n f = rw (f, count-decides ∙ sym g ∙ y, ← bits-asked, m, e, named) refl
 
 -- ---- pose
 
@@ -110,17 +115,22 @@ module _ (s : List ℕ) (a : Ask) (z : refusal (imageTests s a) ≡ 0) where
   pub good-survey : Survey (meters s) (links s)
   good-survey = links-survey s good-image
 
+  good-ask : refusal (askTests (meters s) a) ≡ 0
+  unfolding kindTests
+  good-ask = none-first (askTests (meters s) a) _ (ask-numbered (meters s) a) good-kind
+
   -- its kind's limits hold
   pub good-limits : limitsHold (meters s) (kindOf a) ≡ true
-  unfolding kindTests
-  good-limits = ask-limits (meters s) a (none-first (askTests (meters s) a) _ (ask-numbered (meters s) a) good-kind)
+  good-limits = ask-limits (meters s) a good-ask
+
+  -- the margin is not too large
+  pub good-margin : a .margin ≤ MOST-MARGIN
+  good-margin = ask-margin (meters s) a good-ask
 
   -- there are at most 8,192 bits
   pub good-count : instanceIn s a .bits ≤ MOST-BITS
   unfolding kindTests
-  good-count =
-      let asked = none-first (askTests (meters s) a) _ (ask-numbered (meters s) a) good-kind in
-      count-few _ (sym (alike-none (askTests (meters s) a) (ask-numbered (meters s) a) asked _) ∙ good-kind)
+  good-count = count-few _ (sym (alike-none (askTests (meters s) a) (ask-numbered (meters s) a) good-ask _) ∙ good-kind)
 
 -- the problem of an image
 pub record Given (s : List ℕ) (a : Ask) (pr : Problem) (b n : ℕ) : Type 0 where
@@ -148,7 +158,7 @@ module _ (s : List ℕ) (a : Ask) (d : Posed) (e : d ≡ posedBy (acceptNumberIn
         is-meters = refl;
         few-meters = v .meters-high;
         is-penalty = penalty-is _ (siteIn s) (kindOf a);
-        small = asked-small (siteIn s) v a;
+        small = asked-small (siteIn s) v a (good-margin s a (h .0));
         is-bits = h .2;
         few = omega (arith, h .2, good-count s a (h .0));
         is-links = h .3;

@@ -16,7 +16,7 @@ use Rattle.site.specs.Refusal.{refusal}
 use Rattle.site.proofs.Refused.{refusal-here, refusal-next, refusal-last, refusal-none}
 use Rattle.plans.specs.declared.Ask.{Ask}
 use Rattle.plans.specs.Kinds.{kindOf, limitsHold}
-use Rattle.plans.specs.Refusals.{MOST-BITS, badKind, areBits, askTests, countTests, rowTests, energyTests}
+use Rattle.plans.specs.Refusals.{MOST-BITS, MOST-MARGIN, badKind, areBits, askTests, countTests, rowTests, energyTests}
 use Rattle.plans.specs.Inner.{codeLengths, decodeBytes}
 
 -- ---- what is asked
@@ -26,14 +26,23 @@ module _ (N : ℕ) (a : Ask) where
   unfolding askTests
   ask-bad e = sym (refusal-here 7 _ _ e)
 
-  pub ask-fine : badKind N a ≡ false → 0 ≡ refusal (askTests N a)
+  pub ask-wide : badKind N a ≡ false → MOST-MARGIN < a .margin → 18 ≡ refusal (askTests N a)
   unfolding askTests
-  ask-fine e = sym (refusal-last 7 _ e)
+  ask-wide e h = sym (refusal-next 7 _ _ e ∙ refusal-here 18 _ _ (lt-ltb MOST-MARGIN (a .margin) h))
+
+  pub ask-fine : badKind N a ≡ false → a .margin ≤ MOST-MARGIN → 0 ≡ refusal (askTests N a)
+  unfolding askTests
+  ask-fine e h = sym (refusal-next 7 _ _ e ∙ refusal-last 18 _ (le-ltb MOST-MARGIN (a .margin) h))
 
   -- the kind's limits hold
   pub ask-limits : refusal (askTests N a) ≡ 0 → limitsHold N (kindOf a) ≡ true
   unfolding askTests badKind
   ask-limits z = not-false _ (or-right (not (leb 1 (a .kind) && leb (a .kind) 3)) _ (refusal-none 6 _ _ z .0))
+
+  -- the margin is not too large
+  pub ask-margin : refusal (askTests N a) ≡ 0 → a .margin ≤ MOST-MARGIN
+  unfolding askTests
+  ask-margin z = ltb-false MOST-MARGIN (a .margin) (refusal-none 17 _ _ (refusal-none 6 _ _ z .1) .0)
 
 -- ---- the number of bits
 

@@ -60,6 +60,6 @@ numbers [] = []
 numbers (n ∷ ns) = (n, true) ∷ numbers ns
 
 -- the order of trial, of all numbers that there are
-pub order-of-trial : InOrder (numbers (1 ∷ 2 ∷ 3 ∷ 4 ∷ 5 ∷ 6 ∷ 7 ∷ 8 ∷ 10 ∷ 9 ∷ 11 ∷ 12 ∷ []))
+pub order-of-trial : InOrder (numbers (1 ∷ 2 ∷ 3 ∷ 4 ∷ 5 ∷ 6 ∷ 7 ∷ 18 ∷ 8 ∷ 10 ∷ 9 ∷ 11 ∷ 12 ∷ []))
 unfolding risesFrom
 order-of-trial = refl

@@ -4,6 +4,7 @@ use mathlib.Core.Path.{_≡_}
 use mathlib.Core.Bool.{Bool, true, false, _&&_, cond}
 use mathlib.Core.List.{List, [], _∷_}
 use lib.Dec.{eqb, ltb}
+use Rattle.qubo.specs.Instance.{Instance}
 use Rattle.plans.specs.declared.Ask.{Ask}
 use Rattle.plans.specs.Calls.{acceptNumberIn}
 
@@ -20,11 +21,11 @@ pub data Applies (n : ℕ) : List (ℕ × Bool) → Type 0 where
   this : {b : Bool} {xs : List (ℕ × Bool)} → b ≡ true → Applies n ((n, b) ∷ xs)
   another : {x : ℕ × Bool} {xs : List (ℕ × Bool)} → Applies n xs → Applies n (x ∷ xs)
 
--- the numbers that are placed after another, each with that other: "10 precedes 9" (01). 02 adds to them
+-- the numbers that are placed after another, each with that other: "10 precedes 9" (01); "18 margin too large, after 7" (02, S-7)
 abbrev pub placedAfter : List (ℕ × ℕ)
-placedAfter = (9, 10) ∷ []
+placedAfter = (9, 10) ∷ (18, 7) ∷ []
 
--- a number stands in the order of numbers, and behind it, before the next one, those placed after it: "numbers given the same place .. are tried lowest first". There are fewer than 100
+-- a number stands in the order of numbers, and behind it, before the next one, those placed after it: "numbers given the same place .. are tried lowest first". No number is 100 or more
 abbrev pub placeBy : List (ℕ × ℕ) → ℕ → ℕ
 placeBy [] n = 100 * n
 placeBy (x ∷ xs) n = cond (eqb n (x .0)) (100 * x .1 + n) (placeBy xs n)
@@ -47,3 +48,16 @@ InOrder xs = risesFrom 0 xs ≡ true
 -- "An image and a kind with its parameter are accepted when no number that concerns them .. applies"
 abbrev pub Accepted : List ℕ → Ask → Type 0
 Accepted s a = acceptNumberIn s a ≡ 0
+
+-- ---- what a margin leaves alone
+
+-- two instances have the same bits, plans, weights and codes, and bits decode alike: they differ in A and the energy at most
+pub record SamePlans (I J : Instance) : Type 0 where
+  pub bits : I .bits ≡ J .bits
+  pub bytes : I .planBytes ≡ J .planBytes
+  pub plans : (q : List ℕ) → I .isPlan q ≡ J .isPlan q
+  pub weights : (q : List ℕ) → I .weight q ≡ J .weight q
+  pub codes : (q : List ℕ) → I .codeOf q ≡ J .codeOf q
+  pub decode : (x : List ℕ) → I .decodes x ≡ J .decodes x
+  pub decoded : (x : List ℕ) → I .decoded x ≡ J .decoded x
+  pub repaired : (x : List ℕ) → I .repaired x ≡ J .repaired x

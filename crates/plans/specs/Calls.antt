@@ -19,7 +19,7 @@ instanceIn s a = instanceOf (siteIn s) a
 
 -- ---- bit count, penalty and constant
 
--- refused by 1, 7, 8: the refusal's number
+-- refused by 1, 7, 18, 8: the refusal's number
 unfoldable pub acceptNumberIn : List ℕ → Ask → ℕ
 acceptNumberIn s a = refusal (imageTests s a)
 
@@ -37,7 +37,7 @@ constantAnswerIn s a = numberAnswer (acceptNumberIn s a) (constantOf (instanceIn
 
 -- ---- row i in a slice with that much room
 
--- refused by 1, 7, 8, 10, 9: the refusal's number
+-- refused by 1, 7, 18, 8, 10, 9: the refusal's number
 unfoldable pub rowNumberIn : List ℕ → Ask → ℕ → ℕ → ℕ
 rowNumberIn s a i room = refusal (imageTests s a ++ rowTests (instanceIn s a .bits) i room)
 
@@ -55,7 +55,7 @@ rowAfterIn s a i out = unlessRefused (rowNumberIn s a i (length out)) (rowFilled
 
 -- ---- the energy of the bits x
 
--- refused by 1, 7, 8, 9, 11: the refusal's number
+-- refused by 1, 7, 18, 8, 9, 11: the refusal's number
 unfoldable pub energyNumberIn : List ℕ → Ask → List ℕ → ℕ
 energyNumberIn s a x = refusal (imageTests s a ++ energyTests (instanceIn s a .bits) x)
 
@@ -65,7 +65,7 @@ energyAnswerIn s a x = numberAnswer (energyNumberIn s a x) (energyOf (instanceIn
 
 -- ---- the plan q coded into the lent bits x
 
--- refused by 1, 7, 8, 9, 12: the refusal's number
+-- refused by 1, 7, 18, 8, 9, 12: the refusal's number
 unfoldable pub codeNumberIn : List ℕ → Ask → List ℕ → List ℕ → ℕ
 codeNumberIn s a q x = refusal (imageTests s a ++ codeTests (instanceIn s a) q x)
 
@@ -75,7 +75,7 @@ codeAfterIn s a q x = unlessRefused (codeNumberIn s a q x) (instanceIn s a .code
 
 -- ---- the bits x decoded into the lent plan q
 
--- refused by 1, 7, 8, 9, 11, 12: the refusal's number
+-- refused by 1, 7, 18, 8, 9, 11, 12: the refusal's number
 unfoldable pub decodeNumberIn : List ℕ → Ask → List ℕ → List ℕ → ℕ
 decodeNumberIn s a x q = refusal (imageTests s a ++ decodeTests (instanceIn s a) x q)
 

@@ -1,5 +1,5 @@
 -- What document 01 says of each kind, by cases of the kind: its limits, its penalty, and its instance. Each case is the definition in that kind's own crate. Assumes nothing.
-use Prim.Native.Nat.{ℕ}
+use Prim.Native.Nat.{ℕ, _+_}
 use mathlib.Core.Bool.{Bool, cond}
 use mathlib.Core.List.{List}
 use lib.Dec.{eqb}
@@ -48,9 +48,9 @@ instanceBy A s (Tree d) = tree-instance.instance A (s .meters) d (s .links)
 
 -- ---- of what is asked
 
--- A: that of the kind
+-- A: "a margin .. that is added to A in all kinds" (02, S-7)
 unfoldable pub penaltyAsked : Site → Ask → ℕ
-penaltyAsked s a = penaltyOf s (kindOf a)
+penaltyAsked s a = penaltyOf s (kindOf a) + a .margin
 
 -- the instance
 unfoldable pub instanceOf : Site → Ask → Instance

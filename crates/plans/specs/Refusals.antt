@@ -1,4 +1,4 @@
--- Document 01's table of refusals for tables, energies, coding and decoding: lists of numbers, each with the test whether it applies, in the order of trial. Those of begin, add and remove, and `refusal`, which picks the first that applies, are in crate `site`. Assumes nothing.
+-- Document 01's table of refusals for tables, energies, coding and decoding, with 02's additions: lists of numbers, each with the test whether it applies, in the order of trial (`place`, Best.antt). Those of begin, add and remove, and `refusal`, which picks the first that applies, are in crate `site`. Assumes nothing.
 use Prim.Native.Nat.{ℕ, _-_}
 use mathlib.Core.Bool.{Bool, _&&_, _||_, not}
 use mathlib.Core.List.{List, [], _∷_, _++_}
@@ -19,13 +19,17 @@ MOST-BITS = 8192
 unfoldable pub badKind : ℕ → Ask → Bool
 badKind N a = not (leb 1 (a .kind) && leb (a .kind) 3) || not (limitsHold N (kindOf a))
 
+-- 18 is "margin too large": "a margin from 0 to 1,000,000" (02, S-7)
+abbrev pub MOST-MARGIN : ℕ
+MOST-MARGIN = 1000000
+
 -- every byte is a bit; 11 is "a lent bit is neither 0 nor 1"
 unfoldable pub areBits : List ℕ → Bool
 areBits x = all (λ b. leb b 1) x
 
--- what concerns what is asked of a site of N meters, before its bits are counted: 7
+-- what concerns what is asked of a site of N meters, before its bits are counted: 7, and what comes after it, 18
 unfoldable pub askTests : ℕ → Ask → List (ℕ × Bool)
-askTests N a = (7, badKind N a) ∷ []
+askTests N a = (7, badKind N a) ∷ (18, ltb MOST-MARGIN (a .margin)) ∷ []
 
 -- what concerns their number: 8 "more than 8,192 bits"
 unfoldable pub countTests : ℕ → List (ℕ × Bool)
@@ -59,6 +63,6 @@ decodeTests I x q = (9, not (eqb (length x) (I .bits) && eqb (length q) (I .plan
 abbrev pub siteIn : List ℕ → Site
 siteIn s = record { meters = meters s; links = links s }
 
--- "An image and a kind with its parameter are accepted when no number that concerns them, here 1, 7 or 8, applies"
+-- "An image and a kind with its parameter are accepted when no number that concerns them, here 1, 7 or 8, applies", and with 02 also 18
 unfoldable pub imageTests : List ℕ → Ask → List (ℕ × Bool)
 imageTests s a = (1, not (valid s)) ∷ kindTests (siteIn s) a

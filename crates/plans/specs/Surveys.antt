@@ -1,4 +1,4 @@
--- "Surveys worked through": those that document 01 marks P, in one table. proofs/Worked.antt shows each line. Assumes nothing.
+-- "Surveys worked through": those that document 01 marks P, in one table, and behind them one of our own for 02. proofs/Worked.antt shows each line. Assumes nothing.
 use Prim.Native.Nat.{ℕ}
 use mathlib.Core.Path.{_≡_}
 use mathlib.Core.Bool.{true}
@@ -71,9 +71,13 @@ pub record Worked : Type 0 where
   pub ask : Ask
   pub lines : List Line
 
--- kind k with the parameter p
+-- kind k with the parameter p and the margin m
+abbrev pub asksRaised : ℕ → ℕ → ℕ → Ask
+asksRaised k p m = record { kind = k; parameter = p; margin = m }
+
+-- "The listed cases are those of margin 0" (02, S-7)
 abbrev pub asks : ℕ → ℕ → Ask
-asks k p = record { kind = k; parameter = p }
+asks k p = asksRaised k p 0
 
 -- the link between u and v of weight w
 abbrev pub link : ℕ → ℕ → ℕ → Link
@@ -165,4 +169,10 @@ table =
     }
     -- "three meters, m = 2: no plan"
     ∷ record { site = record { meters = 3; links = [] }; ask = asks 2 2; lines = no-plan ∷ [] }
+    -- the two meters in two groups of the second entry, with margin 5: A and all that it multiplies rise, and the plan's energy does not
+    ∷ record {
+      site = record { meters = 2; links = link 1 2 3 ∷ [] };
+      ask = asksRaised 2 2 5;
+      lines = A 12 ∷ constant (pos 24) ∷ energy (1 ∷ 0 ∷ 0 ∷ 1 ∷ []) 6 ∷ energy (1 ∷ 0 ∷ 1 ∷ 0 ∷ []) 48 ∷ [];
+    }
     ∷ []

@@ -16,11 +16,12 @@ ghost use Rattle.plans.specs.Answers.{NumberSays, DecodedSays};
 ghost use Rattle.plans.specs.Calls.{instanceIn, acceptNumberIn, bitsAnswerIn, penaltyAnswerIn, constantAnswerIn, rowNumberIn, rowPartIn, rowAfterIn, energyNumberIn, energyAnswerIn, codeNumberIn, codeAfterIn, decodeNumberIn, decodeAnswerIn, decodeAfterIn};
 use crate::posing::Posed;
 
-// What a caller asks for: the number of a kind, and its parameter. C passes it by value.
+// What a caller asks for: the number of a kind, its parameter, and a margin that is added to A. C passes it by value.
 #[repr(C)]
 pub struct Ask {
     pub kind: u64,
     pub parameter: u64,
+    pub margin: u64,
 }
 
 // A kind, with its parameter.
@@ -82,7 +83,7 @@ pub fn remove(image: &mut [u8], u: u64, v: u64) -> u64
     site::remove(image, u, v)
 }
 
-// The number of bits. Refused by 1, 7 or 8.
+// The number of bits. Refused by 1, 7, 18 or 8.
 pub fn bit_count(image: &[u8], ask: Ask) -> Number
     ensures lent { λ _. ⌜ now (image .exit) ≡ now (image .entry) ⌝ }
     ensures answer { λ r. ⌜ r ≡ bitsAnswerIn (now (image .entry)) ask ⌝ }
@@ -95,7 +96,7 @@ pub fn bit_count(image: &[u8], ask: Ask) -> Number
     }
 }
 
-// The penalty A. Refused by 1, 7 or 8.
+// The penalty A, the margin included. Refused by 1, 7, 18 or 8.
 pub fn penalty(image: &[u8], ask: Ask) -> Number
     ensures lent { λ _. ⌜ now (image .exit) ≡ now (image .entry) ⌝ }
     ensures answer { λ r. ⌜ r ≡ penaltyAnswerIn (now (image .entry)) ask ⌝ }
@@ -108,7 +109,7 @@ pub fn penalty(image: &[u8], ask: Ask) -> Number
     }
 }
 
-// The constant of the table. Refused by 1, 7 or 8.
+// The constant of the table. Refused by 1, 7, 18 or 8.
 pub fn constant(image: &[u8], ask: Ask) -> Number
     ensures lent { λ _. ⌜ now (image .exit) ≡ now (image .entry) ⌝ }
     ensures answer { λ r. ⌜ r ≡ constantAnswerIn (now (image .entry)) ask ⌝ }
@@ -168,7 +169,7 @@ pub fn row<'a>(image: &[u8], ask: Ask, i: u64, out: &'a mut [i64]) -> &'a mut [i
     &mut out[..filled.len]
 }
 
-// The number with which `row` refuses the same input, or 0: 1, 7, 8, 10 or 9. It alters nothing.
+// The number with which `row` refuses the same input, or 0: 1, 7, 18, 8, 10 or 9. It alters nothing.
 pub fn row_refusal(image: &[u8], ask: Ask, i: u64, out: &[i64]) -> u64
     ensures lent { λ _. ⌜ (now (image .exit) ≡ now (image .entry)) × (now (out .exit) ≡ now (out .entry)) ⌝ }
     ensures { λ r. ⌜ r ≡ rowNumberIn (now (image .entry)) ask i (length (now (out .entry))) ⌝ }
@@ -190,7 +191,7 @@ pub fn fill_row(image: &[u8], ask: Ask, i: u64, out: &mut [i64]) -> u64
     filled.refusal
 }
 
-// The energy of an assignment. Refused by 1, 7, 8, 9 or 11.
+// The energy of an assignment. Refused by 1, 7, 18, 8, 9 or 11.
 pub fn energy(image: &[u8], ask: Ask, bits: &[u8]) -> Number
     ensures lent { λ _. ⌜ (now (image .exit) ≡ now (image .entry)) × (now (bits .exit) ≡ now (bits .entry)) ⌝ }
     ensures answer { λ r. ⌜ r ≡ energyAnswerIn (now (image .entry)) ask (now (bits .entry)) ⌝ }
@@ -216,7 +217,7 @@ pub fn energy(image: &[u8], ask: Ask, bits: &[u8]) -> Number
     }
 }
 
-// The code of a plan, in the lent bits. Returns 0, 1, 7, 8, 9 or 12.
+// The code of a plan, in the lent bits. Returns 0, 1, 7, 18, 8, 9 or 12.
 pub fn encode(image: &[u8], ask: Ask, plan: &[u8], bits: &mut [u8]) -> u64
     ensures lent { λ _. ⌜ (now (image .exit) ≡ now (image .entry)) × (now (plan .exit) ≡ now (plan .entry)) ⌝ }
     ensures number { λ r. ⌜ r ≡ codeNumberIn (now (image .entry)) ask (now (plan .entry)) (now (bits .entry)) ⌝ }
@@ -245,7 +246,7 @@ pub fn encode(image: &[u8], ask: Ask, plan: &[u8], bits: &mut [u8]) -> u64
     }
 }
 
-// The plan of an assignment, in the lent plan, its weight and how many meters were repaired. Refused by 1, 7, 8, 9, 11 or 12.
+// The plan of an assignment, in the lent plan, its weight and how many meters were repaired. Refused by 1, 7, 18, 8, 9, 11 or 12.
 pub fn decode(image: &[u8], ask: Ask, bits: &[u8], plan: &mut [u8]) -> Decoded
     ensures lent { λ _. ⌜ (now (image .exit) ≡ now (image .entry)) × (now (bits .exit) ≡ now (bits .entry)) ⌝ }
     ensures answer { λ r. ⌜ r ≡ decodeAnswerIn (now (image .entry)) ask (now (bits .entry)) (now (plan .entry)) ⌝ }

@@ -1,4 +1,4 @@
-// The prologue of every call about a table: the image is read, and the problem that it and the ask pose is given, or the first refusal by 1, 7 or 8.
+// The prologue of every call about a table: the image is read, and the problem that it and the ask pose is given, or the first refusal by 1, 7, 18 or 8.
 ghost use mathlib.Core.Path.{_≡_};
 ghost use Prim.Native.Nat.{_≤_};
 ghost use lib.ListN.{length, take};
@@ -25,7 +25,7 @@ pub enum Posed {
     Refused(u64),
 }
 
-// The problem of a site whose links are in the first n places of three arrays. Refused by 7 or 8.
+// The problem of a site whose links are in the first n places of three arrays. Refused by 7, 18 or 8.
 fn pose_links(us: &[u8], vs: &[u8], ws: &[u16], n: usize, meters: usize, ask: Ask) -> Posed
     requires { ⌜ (n ≤ length (now us)) × (n ≤ length (now vs)) × (n ≤ length (now ws)) × Arrays meters (take n (now us)) (take n (now vs)) (take n (now ws)) ⌝ }
     ensures { λ r. ⌜ r ≡ posedBy (refusal (kindTests (siteOf meters (take n (now (us .entry))) (take n (now (vs .entry))) (take n (now (ws .entry)))) ask)) (siteOf meters (take n (now (us .entry))) (take n (now (vs .entry))) (take n (now (ws .entry)))) ask ⌝ }
@@ -40,7 +40,8 @@ fn pose_links(us: &[u8], vs: &[u8], ws: &[u16], n: usize, meters: usize, ask: As
     if number != 0 {
         return Posed::Refused(number);
     }
-    let penalty = kinds::penalty_of(kind, &us[..n], &vs[..n], &ws[..n], meters);
+    let own = kinds::penalty_of(kind, &us[..n], &vs[..n], &ws[..n], meters);
+    let penalty = own + ask.margin;
     Posed::Accepted {
         problem: Problem {
             kind: kind,

@@ -1,4 +1,4 @@
-// The tests of 01's table of refusals, in the order of trial: each function gives the number of the first of its tests that applies, or 0.
+// The tests of the table of refusals, in the order of trial: each function gives the number of the first of its tests that applies, or 0.
 ghost use mathlib.Core.Path.{_≡_};
 ghost use Rattle.site.specs.Refusal.{refusal};
 ghost use Rattle.plans.specs.Refusals.{badKind, areBits, askTests, countTests, rowTests, energyTests};
@@ -8,6 +8,9 @@ use crate::kinds;
 
 // The most bits that a table may have.
 const MOST_BITS: usize = 8192;
+
+// The greatest margin.
+const MOST_MARGIN: u64 = 1000000;
 
 // Whether 7 applies.
 fn is_bad(ask: Ask, meters: usize) -> bool
@@ -23,12 +26,15 @@ fn is_bad(ask: Ask, meters: usize) -> bool
     !kinds::allows(kinds::kind_of(ask), meters)
 }
 
-// What is asked of a site of so many meters: 7.
+// What is asked of a site of so many meters: 7, 18.
 pub(crate) fn of_ask(ask: Ask, meters: usize) -> u64
     ensures { λ r. ⌜ r ≡ refusal (askTests meters ask) ⌝ }
 {
     if is_bad(ask, meters) {
         return 7;
+    }
+    if MOST_MARGIN < ask.margin {
+        return 18;
     }
     0
 }

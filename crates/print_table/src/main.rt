@@ -144,11 +144,12 @@ fn show_front(input: &[u8], ask: Ask) -> bool
     show(&input[..KIND_AT], ask)
 }
 
-// What the two bytes behind the image ask for.
+// What the two bytes behind the image ask for; the margin is 0.
 fn asked(kind: u8, parameter: u8) -> Ask {
     Ask {
         kind: kind as u64,
         parameter: parameter as u64,
+        margin: 0,
     }
 }
 

@@ -18,8 +18,8 @@ pub fn penalty(weights: &[u16; 2500]) -> u64 {
 }
 
 // "A times the sum over meters of (1 - bits set at it)², plus, for each link and channel, the weight if both ends have that channel."
-pub fn energy(weights: &[u16; 2500], meters: usize, n: usize, bits: &[u8]) -> u64 {
-    let penalties = numbers::times(penalty(weights), choices::misses(bits, meters, n));
+pub fn energy(weights: &[u16; 2500], meters: usize, n: usize, a: u64, bits: &[u8]) -> u64 {
+    let penalties = numbers::times(a, choices::misses(bits, meters, n));
     numbers::plus(penalties, choices::link_sum(weights, n, bits, 2))
 }
 

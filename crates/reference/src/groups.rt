@@ -37,9 +37,9 @@ fn gaps(bits: &[u8], meters: usize, m: usize) -> u64 {
 }
 
 // "A times [the sum over meters of (1 - bits set)² plus the sum over pairs of groups of (size difference)²], plus, for each link and group, the weight if exactly one end is in it."
-pub fn energy(weights: &[u16; 2500], meters: usize, m: usize, bits: &[u8]) -> u64 {
+pub fn energy(weights: &[u16; 2500], meters: usize, m: usize, a: u64, bits: &[u8]) -> u64 {
     let sums = numbers::plus(choices::misses(bits, meters, m), gaps(bits, meters, m));
-    let penalties = numbers::times(penalty(weights), sums);
+    let penalties = numbers::times(a, sums);
     numbers::plus(penalties, choices::link_sum(weights, m, bits, 1))
 }
 

@@ -1,4 +1,4 @@
-// A second implementation of the papers' definitions (01), for sites of 1 to 6 meters: straight from its sentences, by trying everything, with no regard to speed. It is compared with the proved
+// A second implementation of the papers' definitions (01, and 02's margin), for sites of 1 to 6 meters: straight from its sentences, by trying everything, with no regard to speed. It is compared with the proved
 // library over random sites, so it shares no code with it. Its contracts say only what its callers need to be safe.
 // A site is its number of meters and the weight of the link of u < v at place 50u + v, 0 at every other place: no end is above the number of meters. A plan is eight bytes, of which the first `meters`
 // count. Bits are one byte each. Kinds are 1 (channels), 2 (groups) and 3 (tree); for another kind an answer is false, 0 or nothing set.
@@ -70,8 +70,13 @@ pub fn bit_count(weights: &[u16; 2500], meters: usize, kind: u64, parameter: usi
     small(bits_of(meters, sites::links_before(weights, 64), kind, parameter))
 }
 
-// A.
-pub fn penalty(weights: &[u16; 2500], kind: u64) -> u64 {
+// Not refused by 18, "margin too large": "a margin from 0 to 1,000,000" (02, S-7).
+pub fn allows_margin(margin: u64) -> bool {
+    numbers::within(margin, 0, 1000000)
+}
+
+// 01's A.
+fn own_penalty(weights: &[u16; 2500], kind: u64) -> u64 {
     if kind == 1 {
         return channels::penalty(weights);
     }
@@ -85,22 +90,29 @@ pub fn penalty(weights: &[u16; 2500], kind: u64) -> u64 {
     }
 }
 
+// A, with the margin "that is added to A in all kinds" (02, S-7).
+pub fn penalty(weights: &[u16; 2500], kind: u64, margin: u64) -> u64 {
+    numbers::plus(own_penalty(weights, kind), margin)
+}
+
 // The energy of an assignment.
 pub fn energy(
     weights: &[u16; 2500],
     meters: usize,
     kind: u64,
     parameter: usize,
+    margin: u64,
     bits: &[u8],
 ) -> u64 {
+    let a = penalty(weights, kind, margin);
     if kind == 1 {
-        return channels::energy(weights, meters, parameter, bits);
+        return channels::energy(weights, meters, parameter, a, bits);
     }
     if kind == 2 {
-        return groups::energy(weights, meters, parameter, bits);
+        return groups::energy(weights, meters, parameter, a, bits);
     }
     if kind == 3 {
-        trees::energy(weights, meters, parameter, bits)
+        trees::energy(weights, meters, parameter, a, bits)
     } else {
         0
     }

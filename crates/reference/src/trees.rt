@@ -147,11 +147,11 @@ fn arc_weights(weights: &[u16; 2500], meters: usize, bits: &[u8]) -> u64 {
 }
 
 // "A times the sum of" the six sums, the first being "(1 - number of depth-0 bits)²", "plus the weight of every arc bit set".
-pub fn energy(weights: &[u16; 2500], meters: usize, d: usize, bits: &[u8]) -> u64 {
+pub fn energy(weights: &[u16; 2500], meters: usize, d: usize, a: u64, bits: &[u8]) -> u64 {
     let depths = layout::greatest_depth(meters) + 1;
     let first = numbers::gap_squared(1, numbers::set(bits, 0, depths, meters));
     let of_meters = numbers::plus(first, meter_sums(weights, meters, d, bits));
     let sums = numbers::plus(of_meters, arc_sums(weights, meters, bits));
-    let penalties = numbers::times(penalty(weights), sums);
+    let penalties = numbers::times(a, sums);
     numbers::plus(penalties, arc_weights(weights, meters, bits))
 }

@@ -8,11 +8,12 @@ use plans::Ask;
 // How many numbers of a row are printed.
 const SHOWN: usize = 12;
 
-// What a line asks for: the kind K and its parameter P.
-pub fn asked(n: &[u64; 8]) -> Ask {
+// What a line asks for: the kind K and its parameter P, with the margin that was set before it.
+pub fn asked(n: &[u64; 8], margin: u64) -> Ask {
     Ask {
         kind: n[1],
         parameter: n[2],
+        margin,
     }
 }
 

@@ -15,6 +15,12 @@ use plans::Ask;
 
 const NEWLINE: u8 = 10;
 
+// What one line leaves for those after it: how many bytes are lent as the image, and the margin of what is asked.
+struct Setting {
+    lent: usize,
+    margin: u64,
+}
+
 // Where the line ends that begins at `start`.
 fn line_end(text: &[u8], start: usize) -> usize
     requires { ⌜ start ≤ length (now text) ⌝ }
@@ -47,32 +53,40 @@ fn answer(image: &mut [u8], letter: u8, ask: Ask, n: &[u64; 8], line: &[u8]) {
     }
 }
 
-// Carries out one line. Gives how many bytes are lent as the image from then on.
-fn carry_out(image: &mut [u8], lent: usize, line: &[u8]) -> usize
+// Carries out one line. Gives what holds from then on.
+fn carry_out(image: &mut [u8], lent: usize, margin: u64, line: &[u8]) -> Setting
     requires { ⌜ lent ≤ length (now image) ⌝ }
-    ensures { λ r. ⌜ r ≤ length (now (image .entry)) ⌝ }
+    ensures { λ r. ⌜ r .lent ≤ length (now (image .entry)) ⌝ }
 {
     lines::words(line);
     let letter = words::first(line);
     let n = words::numbers_of(line);
     if letter == b'l' {
         lines::words(b"\n");
-        return bytes::within(n[1] as usize, image.len());
+        let lent = bytes::within(n[1] as usize, image.len());
+        return Setting { lent, margin };
     }
-    let ask = asks::asked(&n);
+    if letter == b'w' {
+        lines::words(b"\n");
+        return Setting { lent, margin: n[1] };
+    }
+    let ask = asks::asked(&n, margin);
     answer(&mut image[..lent], letter, ask, &n, line);
     lines::words(b"\n");
-    lent
+    Setting { lent, margin }
 }
 
 // Line by line; the last one may have no end.
 fn carry_out_all(text: &[u8]) {
     let mut image = [0u8; 2065];
     let mut lent: usize = 2064;
+    let mut margin: u64 = 0;
     let mut at: usize = 0;
     while at < text.len() {
         let end = line_end(text, at);
-        lent = carry_out(&mut image, lent, &text[at..end]);
+        let after = carry_out(&mut image, lent, margin, &text[at..end]);
+        lent = after.lent;
+        margin = after.margin;
         if end == text.len() {
             return;
         }

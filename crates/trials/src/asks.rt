@@ -1,4 +1,4 @@
-// Calls that may be refused: image, kind, parameter, row, lengths and bits are each drawn right or wrong. Every call has to give the number that comes first, and to alter nothing where it is refused.
+// Calls that may be refused: image, kind, parameter, margin, row, lengths and bits are each drawn right or wrong. Every call has to give the number that comes first, and to alter nothing where it is refused.
 use crate::assignments;
 use crate::bytes;
 use crate::calls;
@@ -168,7 +168,9 @@ fn ask_once(image: &[u8; 2064], weights: &[u16; 2500], meters: usize, counts: &m
     let length = if way == 8 { 2063 } else { 2064 };
     let kind = draw_kind(counts);
     let parameter = draw_parameter(counts);
-    let c = cases::case_of(weights, meters, calls::asks(kind, parameter), 8 < way, 128);
+    let margin = calls::draw_margin(counts, calls::ALL_MARGINS);
+    let ask = calls::asks(kind, parameter, margin);
+    let c = cases::case_of(weights, meters, ask, 8 < way, 128);
     ask_all(&copy, length, weights, c, counts);
 }
 

@@ -1,5 +1,6 @@
 // Cases, and what the library's calls answer for them.
 use crate::bytes;
+use crate::counts;
 use plans::Ask;
 use plans::Decoded;
 use plans::Number;
@@ -13,7 +14,7 @@ pub struct Case {
     // the bit count and the penalty, as the reference says
     pub bits: usize,
     pub penalty: u64,
-    // the refusal of image and kind, or 0
+    // the refusal of image and ask, or 0
     pub refusal: u64,
     // how many bits and how many bytes of a plan are lent
     pub lent_bits: usize,
@@ -24,9 +25,45 @@ pub struct Case {
     pub small: bool,
 }
 
-// What asks for a kind with a parameter.
-pub fn asks(kind: u64, parameter: u64) -> Ask {
-    Ask { kind, parameter }
+// What asks for a kind with a parameter and a margin.
+pub fn asks(kind: u64, parameter: u64, margin: u64) -> Ask {
+    Ask {
+        kind,
+        parameter,
+        margin,
+    }
+}
+
+// Margins, of which the first 12 are accepted: 2^32 is 0 to whoever keeps four bytes of it.
+const MARGINS: [u64; 16] = [
+    0,
+    1,
+    0,
+    2,
+    0,
+    5,
+    0,
+    1000,
+    0,
+    65535,
+    999999,
+    1000000,
+    1000001,
+    4294967296,
+    1000001,
+    18446744073709551615,
+];
+
+// How many of the margins are accepted, and how many there are.
+pub const ACCEPTED_MARGINS: usize = 12;
+
+pub const ALL_MARGINS: usize = 16;
+
+// One of the first n margins.
+pub fn draw_margin(counts: &mut [u64; 130], n: usize) -> u64 {
+    let margins = MARGINS;
+    let k = counts::below(counts, n) % 16;
+    margins[k]
 }
 
 // A refusal's number, or 0 and what there is of a plan beside its bytes.
@@ -89,7 +126,7 @@ pub fn is_plan(p: Plan, weight: u64, repaired: u64) -> bool {
     p.repaired == repaired
 }
 
-// The refusals of energies, codes and decoding: of image and kind, of a length, and a later one.
+// The refusals of energies, codes and decoding: of image and ask, of a length, and a later one.
 pub fn number_of(c: Case, plan: usize, later: u64) -> u64 {
     if c.refusal != 0 {
         return c.refusal;

@@ -8,12 +8,19 @@ use crate::lists;
 use crate::rows;
 use plans::Ask;
 
-// The refusal of image and kind, or 0. No small site has more than 8,192 bits, so 8 never applies; large.rt has those that have.
-fn refusal(valid: bool, allowed: bool) -> u64 {
+// The refusal of image and ask, or 0: "18 margin too large, after 7". No small site has more than 8,192 bits, so 8 never applies; large.rt has those that have.
+fn refusal(valid: bool, allowed: bool, margin: u64) -> u64 {
     if !valid {
         return 1;
     }
-    if allowed { 0 } else { 7 }
+    if !allowed {
+        return 7;
+    }
+    if reference::allows_margin(margin) {
+        0
+    } else {
+        18
+    }
 }
 
 // The case of what is asked for, with what it needs lent; small where it has at most so many bits.
@@ -26,8 +33,8 @@ pub fn case_of(weights: &[u16; 2500], meters: usize, ask: Ask, valid: bool, most
         ask,
         size,
         bits,
-        penalty: reference::penalty(weights, ask.kind),
-        refusal: refusal(valid, allowed),
+        penalty: reference::penalty(weights, ask.kind, ask.margin),
+        refusal: refusal(valid, allowed, ask.margin),
         lent_bits: bits,
         lent_plan: meters,
         flaw: 0,
@@ -96,7 +103,7 @@ pub fn compare_case(image: &[u8], weights: &[u16; 2500], c: Case, counts: &mut [
     }
 }
 
-// All cases of a site: kinds 0 to 3, parameters 0 to 63, of which the refused ones have a number alone.
+// All cases of a site: kinds 0 to 3, parameters 0 to 63, of which the refused ones have a number alone, each with a drawn margin that is accepted.
 pub fn compare_cases(
     image: &[u8; 2064],
     weights: &[u16; 2500],
@@ -106,7 +113,9 @@ pub fn compare_cases(
 ) {
     let mut k: u64 = 0;
     while k < 256 {
-        let c = case_of(weights, meters, calls::asks(k / 64, k % 64), true, most);
+        let margin = calls::draw_margin(counts, calls::ACCEPTED_MARGINS);
+        let ask = calls::asks(k / 64, k % 64, margin);
+        let c = case_of(weights, meters, ask, true, most);
         rows::compare_table(image, weights, c, counts);
         if is_chosen(c) {
             compare_case(image, weights, c, counts);

@@ -22,7 +22,8 @@ pub const LEAST: usize = 8;
 
 const NUMBERS: usize = 9;
 
-const ALL: usize = 22;
+// Up to 18, the highest number of a refusal.
+const ALL: usize = 28;
 
 // One more at a place.
 fn count(counts: &mut [u64; 130], at: usize) {
@@ -81,9 +82,12 @@ fn title(k: usize) {
     named(b"number ", (k - NUMBERS) as u64);
 }
 
-// The line of a subject.
+// The line of a subject, where something was compared: not every number up to the highest is given.
 fn line(counts: &[u64; 130], k: usize) {
     let at = k % 64 * 2;
+    if counts[at] == 0 {
+        return;
+    }
     title(k);
     named(b": ", counts[at]);
     named(b" compared, ", counts[at + 1]);

@@ -29,10 +29,13 @@ fn draw_large(counts: &mut [u64; 130], meters: usize, least: usize) -> Edit {
     }
 }
 
-// The refusal of a kind, or 0.
-fn refusal(allowed: bool, bits: usize) -> u64 {
+// The refusal of an ask, or 0.
+fn refusal(allowed: bool, margin: u64, bits: usize) -> u64 {
     if !allowed {
         return 7;
+    }
+    if !reference::allows_margin(margin) {
+        return 18;
     }
     if MOST_BITS < bits { 8 } else { 0 }
 }
@@ -40,7 +43,8 @@ fn refusal(allowed: bool, bits: usize) -> u64 {
 // The bit count of what is asked for, or its refusal.
 fn compare_count(image: &[u8; 2064], meters: usize, links: u64, ask: Ask, counts: &mut [u64; 130]) {
     let bits = reference::bits_of(meters, links, ask.kind, ask.parameter as usize);
-    let number = refusal(reference::allows(ask.kind, ask.parameter, meters), bits);
+    let allowed = reference::allows(ask.kind, ask.parameter, meters);
+    let number = refusal(allowed, ask.margin, bits);
     let answer = plans::bit_count(image, ask);
     counts::called(
         counts,
@@ -50,11 +54,13 @@ fn compare_count(image: &[u8; 2064], meters: usize, links: u64, ask: Ask, counts
     );
 }
 
-// Those of kinds 0 to 3 with parameters 0 to 63.
+// Those of kinds 0 to 3 with parameters 0 to 63, each with a drawn margin.
 fn compare_counts(image: &[u8; 2064], meters: usize, links: u64, counts: &mut [u64; 130]) {
     let mut k: u64 = 0;
     while k < 256 {
-        compare_count(image, meters, links, calls::asks(k / 64, k % 64), counts);
+        let margin = calls::draw_margin(counts, calls::ALL_MARGINS);
+        let ask = calls::asks(k / 64, k % 64, margin);
+        compare_count(image, meters, links, ask, counts);
         k += 1;
     }
 }

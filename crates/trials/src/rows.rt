@@ -13,7 +13,7 @@ const NO_BIT: usize = 127;
 // The energy of an assignment, of as many bits as there are.
 pub fn energy_of(weights: &[u16; 2500], c: Case, bits: &[u8]) -> u64 {
     let front = bytes::front(bits, c.bits);
-    reference::energy(weights, c.meters, c.ask.kind, c.size, front)
+    reference::energy(weights, c.meters, c.ask.kind, c.size, c.ask.margin, front)
 }
 
 // The energy of the assignment in which just i and j are set, which may be the same bit, or no bit.

@@ -28,12 +28,11 @@ fn put(
     edits::edit_both(image, weights, 3, e, counts);
 }
 
-// The trees of a site with at most one neighbour, and with at most two.
-fn compare_limits(image: &[u8; 2064], weights: &[u16; 2500], counts: &mut [u64; 130]) {
-    let one = cases::case_of(weights, 3, calls::asks(3, 1), true, 18);
-    cases::compare_case(image, weights, one, counts);
-    let two = cases::case_of(weights, 3, calls::asks(3, 2), true, 18);
-    cases::compare_case(image, weights, two, counts);
+// The trees of a site with a neighbour limit.
+fn compare_limit(image: &[u8; 2064], weights: &[u16; 2500], d: u64, counts: &mut [u64; 130]) {
+    let margin = calls::draw_margin(counts, calls::ACCEPTED_MARGINS);
+    let c = cases::case_of(weights, 3, calls::asks(3, d, margin), true, 18);
+    cases::compare_case(image, weights, c, counts);
 }
 
 // One set of links: bit 0 of its number is the link of 1 and 2, bit 1 that of 1 and 3, bit 2 that of 2 and 3.
@@ -44,7 +43,8 @@ fn compare_set(set: usize, counts: &mut [u64; 130]) {
     put(&mut image, &mut weights, 1, 2, set % 2 == 1, counts);
     put(&mut image, &mut weights, 1, 3, set / 2 % 2 == 1, counts);
     put(&mut image, &mut weights, 2, 3, set / 4 % 2 == 1, counts);
-    compare_limits(&image, &weights, counts);
+    compare_limit(&image, &weights, 1, counts);
+    compare_limit(&image, &weights, 2, counts);
 }
 
 // All sets.

@@ -29,6 +29,18 @@ within-requires c κs = search needs
 returns : tie.Need-returns
 returns c = search needs
 
+slice-aggregate-words-2 : tie.Need-slice-aggregate-words-2
+slice-aggregate-words-2 c = search needs
+
+words-requires-3 : tie.Need-words-requires-3
+words-requires-3 c κs = search needs
+
+array-read-t28 : tie.Need-array-read-t28
+array-read-t28 c = search needs
+
+returns-2 : tie.Need-returns-2
+returns-2 c = search needs
+
 asked-requires : tie.Need-asked-requires
 asked-requires c κs = search needs
 
@@ -41,17 +53,17 @@ slice-aggregate-answer c = sym (length-take-le _ _ (omega arith))
 answer-requires : tie.Need-answer-requires
 answer-requires c κs = search needs
 
-slice-aggregate-words-2 : tie.Need-slice-aggregate-words-2
-slice-aggregate-words-2 c = search needs
+slice-aggregate-words-3 : tie.Need-slice-aggregate-words-3
+slice-aggregate-words-3 c = search needs
 
-words-requires-3 : tie.Need-words-requires-3
-words-requires-3 c κs = search needs
+words-requires-4 : tie.Need-words-requires-4
+words-requires-4 c κs = search needs
 
 same-length : tie.Need-same-length
 same-length c = search needs
 
-returns-2 : tie.Need-returns-2
-returns-2 c = search needs
+returns-3 : tie.Need-returns-3
+returns-3 c = search needs
 
 pub carry-out-spec : {M : Type 1} → statement M
 carry-out-spec =
@@ -65,11 +77,15 @@ carry-out-spec =
     array-read-within
     within-requires
     returns
+    slice-aggregate-words-2
+    words-requires-3
+    array-read-t28
+    returns-2
     asked-requires
     slice-relend-prefix-answer
     slice-aggregate-answer
     answer-requires
-    slice-aggregate-words-2
-    words-requires-3
+    slice-aggregate-words-3
+    words-requires-4
     same-length
-    returns-2)
+    returns-3)

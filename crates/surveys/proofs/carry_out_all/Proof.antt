@@ -6,10 +6,10 @@ use Rattle.surveys.proofs.carry_out_all.Statement.{statement}
 use Rattle.surveys.proofs.carry_out_all.Tie as tie
 
 abbrev Inv-loop : tie.InvT-loop
-Inv-loop text image₀ lent₀ at₀ image lent at = (at ≤ length text) × (lent ≤ 2065) × (length image ≡ 2065)
+Inv-loop text image₀ lent₀ margin₀ at₀ image lent margin at = (at ≤ length text) × (lent ≤ 2065) × (length image ≡ 2065)
 
 abbrev μ-loop : tie.MeasureT-loop
-μ-loop text image₀ lent₀ at₀ image lent at = length text - at
+μ-loop text image₀ lent₀ margin₀ at₀ image lent margin at = length text - at
 
 loop-holds : tie.Need-loop-holds Inv-loop μ-loop
 loop-holds c = search needs

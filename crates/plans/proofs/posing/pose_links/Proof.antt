@@ -6,7 +6,7 @@ use Rattle.links.proofs.Arrays.{length-linksOf}
 use Rattle.links.proofs.Walk.{arrays-few}
 use Rattle.plans.specs.Kinds.{siteOf, limitsHold}
 use Rattle.plans.proofs.Refusing.{ask-limits}
-use Rattle.plans.proofs.Posed.{posed-bad, posed-many, posed-well}
+use Rattle.plans.proofs.Posed.{posed-bad, posed-many, raised-fits, posed-well}
 use borrow.Author.Needs.{needs}
 use Rattle.plans.proofs.posing.pose_links.Statement.{statement}
 use Rattle.plans.proofs.posing.pose_links.Tie as tie
@@ -47,10 +47,15 @@ slice-aggregate-penalty-of-3 c = sym (length-take-le _ _ (c .before .before .bef
 penalty-of-requires : tie.Need-penalty-of-requires
 penalty-of-requires c κs = c .before .before .before .before .before .before .before .before .before .before .before .before .pre .3
 
+add-penalty : tie.Need-add-penalty
+add-penalty c =
+    let s = c .before .before .before .before .before .before .before .before .before .before .before .before .before .before in
+    omega (arith, raised-fits (siteOf (s .args .meters) (take (s .args .n) (s .args .us .now)) (take (s .args .n) (s .args .vs .now)) (take (s .args .n) (s .args .ws .now))) (s .args .ask) _ (c .before .before .before .before .before .before .before .before .before .before .of-ask .ensures) (omega arith) _ (c .before .before .before .before .before .before .before .before .kind-of .ensures) _ (λ A. c .before .before .before .before .before .before .before .bits-of .ensures A _ (length-linksOf (take (s .args .n) (s .args .us .now)) (take (s .args .n) (s .args .vs .now)) (take (s .args .n) (s .args .ws .now)) ∙ length-take-le (s .args .n) (s .args .us .now) (s .pre .0))) (s .pre .3 .survey) _ (c .before .penalty-of .ensures))
+
 returns-3 : tie.Need-returns-3
 returns-3 c =
-    let s = c .before .before .before .before .before .before .before .before .before .before .before .before .before in
-    posed-well (siteOf (s .args .meters) (take (s .args .n) (s .args .us .now)) (take (s .args .n) (s .args .vs .now)) (take (s .args .n) (s .args .ws .now))) (s .args .ask) _ (c .before .before .before .before .before .before .before .before .before .of-ask .ensures) (omega arith) _ (c .before .before .before .before .before .before .before .kind-of .ensures) _ (λ A. c .before .before .before .before .before .before .bits-of .ensures A _ (length-linksOf (take (s .args .n) (s .args .us .now)) (take (s .args .n) (s .args .vs .now)) (take (s .args .n) (s .args .ws .now)) ∙ length-take-le (s .args .n) (s .args .us .now) (s .pre .0))) _ (c .before .before .before .before .before .of-count .ensures) (omega arith) _ (c .penalty-of .ensures) _ (sym (length-linksOf (take (s .args .n) (s .args .us .now)) (take (s .args .n) (s .args .vs .now)) (take (s .args .n) (s .args .ws .now)) ∙ length-take-le (s .args .n) (s .args .us .now) (s .pre .0)))
+    let s = c .before .before .before .before .before .before .before .before .before .before .before .before .before .before in
+    posed-well (siteOf (s .args .meters) (take (s .args .n) (s .args .us .now)) (take (s .args .n) (s .args .vs .now)) (take (s .args .n) (s .args .ws .now))) (s .args .ask) _ (c .before .before .before .before .before .before .before .before .before .before .of-ask .ensures) (omega arith) _ (c .before .before .before .before .before .before .before .before .kind-of .ensures) _ (λ A. c .before .before .before .before .before .before .before .bits-of .ensures A _ (length-linksOf (take (s .args .n) (s .args .us .now)) (take (s .args .n) (s .args .vs .now)) (take (s .args .n) (s .args .ws .now)) ∙ length-take-le (s .args .n) (s .args .us .now) (s .pre .0))) _ (c .before .before .before .before .before .before .of-count .ensures) (omega arith) _ _ (omega arith) (c .before .penalty-of .ensures) _ (sym (length-linksOf (take (s .args .n) (s .args .us .now)) (take (s .args .n) (s .args .vs .now)) (take (s .args .n) (s .args .ws .now)) ∙ length-take-le (s .args .n) (s .args .us .now) (s .pre .0)))
 
 pub pose-links-spec : {M : Type 1} → statement M
 pose-links-spec =
@@ -66,4 +71,5 @@ pose-links-spec =
     slice-aggregate-penalty-of-2
     slice-aggregate-penalty-of-3
     penalty-of-requires
+    add-penalty
     returns-3)

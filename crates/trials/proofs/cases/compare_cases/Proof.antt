@@ -12,6 +12,9 @@ abbrev μ-loop : tie.MeasureT-loop
 loop-holds : tie.Need-loop-holds Inv-loop μ-loop
 loop-holds c = tt
 
+draw-margin-requires : tie.Need-draw-margin-requires Inv-loop μ-loop
+draw-margin-requires c κs = search needs
+
 asks-requires : tie.Need-asks-requires Inv-loop μ-loop
 asks-requires c κs = search needs
 
@@ -46,6 +49,7 @@ compare-cases-spec =
     Inv-loop
     μ-loop
     loop-holds
+    draw-margin-requires
     asks-requires
     case-of-requires
     compare-table-requires

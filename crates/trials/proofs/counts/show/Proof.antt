@@ -7,7 +7,7 @@ abbrev Inv-loop : tie.InvT-loop
 Inv-loop counts k₀ k = Unit {0}
 
 abbrev μ-loop : tie.MeasureT-loop
-μ-loop counts k₀ k = 22 - k
+μ-loop counts k₀ k = 28 - k
 
 loop-holds : tie.Need-loop-holds Inv-loop μ-loop
 loop-holds c = tt

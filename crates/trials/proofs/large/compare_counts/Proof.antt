@@ -12,6 +12,9 @@ abbrev μ-loop : tie.MeasureT-loop
 loop-holds : tie.Need-loop-holds Inv-loop μ-loop
 loop-holds c = tt
 
+draw-margin-requires : tie.Need-draw-margin-requires Inv-loop μ-loop
+draw-margin-requires c κs = search needs
+
 asks-requires : tie.Need-asks-requires Inv-loop μ-loop
 asks-requires c κs = search needs
 
@@ -33,4 +36,4 @@ returns c = search needs
 pub compare-counts-spec : {M : Type 1} → statement M
 compare-counts-spec =
     tie.close
-    (tie.spec Inv-loop μ-loop loop-holds asks-requires compare-count-requires add-k loop-less loop-again returns)
+    (tie.spec Inv-loop μ-loop loop-holds draw-margin-requires asks-requires compare-count-requires add-k loop-less loop-again returns)
