@@ -93,7 +93,7 @@ pub fn count_number(first: usize, d: usize, i: usize) -> usize
 }
 
 // The bit of a meter at a depth; of an arc (its number, parent, child and weight) at a depth; or one behind these.
-#[derive(Drop)]
+#[derive(Clone, Copy)]
 pub enum Place {
     OfDepth {
         meter: usize,

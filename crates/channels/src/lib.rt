@@ -1,5 +1,7 @@
 // Kind 1, channels: what document 01 asks of it, over the number of meters, the links as three arrays, and n.
 // Definitions are in specs/; that the lowest assignments are the codes of the best plans is proved in proofs/.
+#![tactic(auto)]
+
 ghost use Rattle.std.specs.Prelude.{ℕ, ◌+◌, ◌-◌, ◌*◌, ◌≤◌, ◌<◌, ◌^◌, true, ◌≡◌, List, ◌++◌, length, drop};
 ghost use Rattle.links.specs.Links.{Link, links_of};
 ghost use Rattle.links.specs.Survey.{Arrays};
@@ -17,7 +19,7 @@ mod rows;
 mod silent;
 
 // The limits of n, and the bit count.
-#[derive(Drop)]
+#[derive(Clone, Copy)]
 pub struct Channels;
 
 impl Channels {
@@ -45,7 +47,7 @@ impl Channels {
 }
 
 // The plan's clash weight, and how many meters were repaired.
-#[derive(Drop)]
+#[derive(Clone, Copy)]
 pub struct Decoded {
     pub weight: u64,
     pub repaired: u64,

@@ -1,5 +1,7 @@
 // Kind 2, groups: what document 01 asks of it, over the number of meters, the links as three arrays, and m.
 // Definitions are in specs/; that the assignments below A are the codes of plans, and the lowest those of the best equal splits where there is any, is proved in proofs/.
+#![tactic(auto)]
+
 ghost use Rattle.std.specs.Prelude.{ℕ, ◌+◌, ◌-◌, ◌*◌, ◌≤◌, ◌<◌, ◌^◌, true, ◌≡◌, List, ◌++◌, length, drop};
 ghost use Rattle.links.specs.Links.{Link, links_of};
 ghost use Rattle.qubo.specs.Formula.{Assignment, value};
@@ -15,7 +17,7 @@ mod rows;
 mod sizes;
 
 // The limits of m, and the bit count.
-#[derive(Drop)]
+#[derive(Clone, Copy)]
 pub struct Groups;
 
 impl Groups {

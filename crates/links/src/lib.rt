@@ -1,4 +1,6 @@
 // Links, and lists of them: what the kinds know of a site beside its number of meters. Definitions are in specs/, their laws in proofs/.
+#![tactic(auto)]
+
 ghost use Rattle.std.specs.Prelude.{ℕ, ◌≤◌, ◌<◌, ◌≡◌, length, get_or};
 ghost use Rattle.lists.specs.Sums.{sum_of};
 ghost use Rattle.links.specs.Survey.{Rising};

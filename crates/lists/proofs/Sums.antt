@@ -297,7 +297,7 @@ unfolding lowest sum_to
 lowest_cases zero f = inl (refl, refl)
 lowest_cases (suc k) f =
     ⊎_elim
-    (λ z. elim (ℕ_discrete (f (suc k)) 0) [
+    (λ (z : (sum_to k f ≡ 0) × (lowest k f ≡ 0)). elim (ℕ_discrete (f (suc k)) 0) [
       | yes r ↦ inl (omega arith, rw (eq-eqb (lowest k f) 0 z.1, eq-eqb (f (suc k)) 0 r) refl)
       | no r ↦ inr (rw (eq-eqb (lowest k f) 0 z.1, ne_eqb (f (suc k)) 0 r) (omega arith, omega arith, omega arith))
     ])

@@ -1,4 +1,6 @@
 // The C interface: the public calls of `plans`, one function each, under the names of include/meterplan.h. A slice crosses as a pointer and a length; `meterplan_ask` of the header is `plans::Ask` itself, by value; an answer that is an enum crosses as a struct of its number and values. A refusal of 0 says that the result is there.
+#![tactic(auto)]
+
 ghost use Rattle.std.specs.Prelude.{◌≡◌, length, pos};
 ghost use Rattle.qubo.specs.Table.{constant_of};
 ghost use Rattle.qubo.specs.Instance.{energy_of};
@@ -10,7 +12,7 @@ use plans::{Ask, Decoded, Number};
 
 // `meterplan_number` of the header: a number, 0 where it is refused.
 #[repr(C)]
-#[derive(Drop)]
+#[derive(Clone, Copy)]
 pub struct MeterplanNumber {
     pub refusal: u64,
     pub value: i64,
@@ -18,7 +20,7 @@ pub struct MeterplanNumber {
 
 // `meterplan_decoded` of the header: the weight of the plan in the lent buffer and how many meters were repaired, both 0 where it is refused.
 #[repr(C)]
-#[derive(Drop)]
+#[derive(Clone, Copy)]
 pub struct MeterplanDecoded {
     pub refusal: u64,
     pub weight: u64,

@@ -1,5 +1,7 @@
 // One-hot choices: each of N meters takes one of the choices 1..n. Channels, groups and trees stand above this.
 // A meter's n bits are lent as a part of the assignment by themselves.
+#![tactic(auto)]
+
 ghost use Rattle.std.specs.Prelude.{ℕ, ◌+◌, ◌*◌, ◌≤◌, ◌<◌, ◌^◌, true, ◌≡◌, length, get_or};
 ghost use Rattle.lists.specs.Sums.{sum_to, lowest, same, differ, gap, nth};
 ghost use Rattle.links.specs.Links.{links_of};

@@ -2,6 +2,8 @@
 // The contracts state all of that but for one thing: what `row` leaves in the slice that it is lent, outside the part that it returns. No contract can speak of that; `trials` and `surveys` compare it.
 // What each call gives is defined in specs/Calls.antt; the three demands are stated in proofs/Demands.antt.
 // The rooms: the calls here; posing.rt reads the image and poses the problem, for all of them; refusals.rt has the tests; kinds.rt every `match` on the kind.
+#![tactic(auto)]
+
 mod kinds;
 mod posing;
 mod refusals;
@@ -17,7 +19,7 @@ use crate::posing::Posed;
 
 // What a caller asks for: the number of a kind, its parameter, and a margin that is added to A. C passes it by value.
 #[repr(C)]
-#[derive(Drop)]
+#[derive(Clone, Copy)]
 pub struct Ask {
     pub kind: u64,
     pub parameter: u64,
@@ -25,7 +27,7 @@ pub struct Ask {
 }
 
 // A kind, with its parameter.
-#[derive(Drop)]
+#[derive(Clone, Copy)]
 pub enum Kind {
     // n channels
     Channels(usize),
@@ -36,7 +38,7 @@ pub enum Kind {
 }
 
 // What a table is made for: a kind, the number of meters, and the penalty A.
-#[derive(Drop)]
+#[derive(Clone, Copy)]
 pub struct Problem {
     pub kind: Kind,
     pub meters: usize,
@@ -44,21 +46,21 @@ pub struct Problem {
 }
 
 // A number, or the refusal's number.
-#[derive(Drop)]
+#[derive(Clone, Copy)]
 pub enum Number {
     Value(i64),
     Refused(u64),
 }
 
 // The weight of the plan that lies in the lent buffer and how many meters were repaired, or the refusal's number.
-#[derive(Drop)]
+#[derive(Clone, Copy)]
 pub enum Decoded {
     Plan { weight: u64, repaired: u64 },
     Refused(u64),
 }
 
 // What became of a row: the refusal's number, and the length of the row, 0 on refusal.
-#[derive(Drop)]
+#[derive(Clone, Copy)]
 struct Filled {
     refusal: u64,
     len: usize,

@@ -12,7 +12,7 @@ ghost use Rattle.plans.specs.Inner.{posed_by};
 use crate::{Ask, Problem, kinds, refusals};
 
 // A problem with its number of bits and of links, or the refusal's number.
-#[derive(Drop)]
+#[derive(Clone, Copy)]
 pub enum Posed {
     Accepted {
         problem: Problem,

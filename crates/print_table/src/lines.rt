@@ -67,7 +67,7 @@ pub fn put_entry(out: &mut [u8; 65536], at: usize, i: u64, j: u64, z: i64) -> us
 }
 
 // How many bytes the buffer holds, and whether a write has failed: then nothing more is to be written.
-#[derive(Drop)]
+#[derive(Clone, Copy)]
 pub struct Buffered {
     pub at: usize,
     pub failed: bool,

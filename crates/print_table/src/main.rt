@@ -2,6 +2,8 @@
 // number that is not 0, i rising, then j rising, with `i i` for a single bit; or one line, `refused` and the number.
 // What the numbers mean: E = constant + the value of each bit that is set + the value of each pair i < j whose bits are both set, once.
 // A table is whole or said not to be: the first write that fails is the last, and standard error then has a line about it. So it has where the input could not be read.
+#![tactic(auto)]
+
 mod lines;
 mod streams;
 

@@ -68,7 +68,7 @@ pub fn write_all(fd: i32, bytes: &[u8]) -> bool {
 }
 
 // What a read gave: how many bytes, and whether the input has ended.
-#[derive(Drop)]
+#[derive(Clone, Copy)]
 struct Got {
     count: usize,
     ended: bool,
@@ -88,7 +88,7 @@ fn read_to(fd: i32, bytes: &mut [u8], done: usize) -> Got
 }
 
 // How many bytes were read, and whether a read failed before the input had ended.
-#[derive(Drop)]
+#[derive(Clone, Copy)]
 pub struct Input {
     pub len: usize,
     pub failed: bool,

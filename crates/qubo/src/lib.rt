@@ -2,13 +2,15 @@
 // A row is lent as a slice: its first number is that of bit i, the next ones are those of the pairs (i, i + 1), (i, i + 2), ..
 // Each adder leaves "row i with that term added" and does nothing, in constant time, where bit i does not occur in the term.
 // `Room` says that no sum overflows: it follows from the norm of the formula whose terms are added.
+#![tactic(auto)]
+
 ghost use Rattle.std.specs.Prelude.{[], ◌∷◌, ◌≡◌, ◌+◌, ◌<◌, ◌≤◌, ◌^◌, length, get_or, pos, nat_abs};
 ghost use Rattle.qubo.specs.Table.{only, coef};
 ghost use Rattle.qubo.specs.Terms.{single, pair, unequal, times};
 ghost use Rattle.qubo.specs.Rows.{zeros, plus, add_terms, run_sum, run_one_hot, run_difference, RunBelow, IsNumber, later, Room};
 
 // The bits start, start + step, start + 2 step, ..: count of them.
-#[derive(Drop)]
+#[derive(Clone, Copy)]
 pub struct Run {
     pub start: usize,
     pub step: usize,
@@ -16,7 +18,7 @@ pub struct Run {
 }
 
 // What bits decode to where nothing is repaired: a plan, with its weight, or none. The plan itself lies in the lent buffer.
-#[derive(Drop)]
+#[derive(Clone, Copy)]
 pub enum Decoded {
     Plan { weight: u64 },
     NoPlan,

@@ -2,6 +2,8 @@
 // library over random sites, so it shares no code with it. Its contracts say only what its callers need to be safe.
 // A site is its number of meters and the weight of the link of u < v at place 50u + v, 0 at every other place: no end is above the number of meters. A plan is eight bytes, of which the first `meters`
 // count. Bits are one byte each. Kinds are 1 (channels), 2 (groups) and 3 (tree); for another kind an answer is false, 0 or nothing set.
+#![tactic(auto)]
+
 ghost use Rattle.std.specs.Prelude.{◌<◌, ◌≤◌};
 
 mod channels;
@@ -15,7 +17,7 @@ mod spanning;
 mod trees;
 
 // The least weight of the spanning trees within a neighbour limit; 0 where none is found.
-#[derive(Drop)]
+#[derive(Clone, Copy)]
 pub struct Best {
     pub found: bool,
     pub weight: u64,

@@ -77,7 +77,7 @@ fn small(x: u64) -> usize
 }
 
 // Where a link stands or is to stand. Where refusal is not 0, the rest says nothing.
-#[derive(Drop)]
+#[derive(Clone, Copy)]
 pub struct Found {
     pub refusal: u64,
     pub u: usize,

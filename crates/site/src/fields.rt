@@ -25,7 +25,7 @@ pub const FREE_AT: usize = 4;
 pub const COUNT_AT: usize = 6;
 
 // What a record holds: the ends, the weight and the next record of a link, and the number that its two zero bytes make.
-#[derive(Drop)]
+#[derive(Clone, Copy)]
 pub struct Record {
     pub u: usize,
     pub v: usize,

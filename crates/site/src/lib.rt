@@ -1,5 +1,7 @@
 // The site image: 2,064 bytes that the caller lends, with N and the links of a site. These are the public calls; none asks anything of its caller. A number that a call returns is 0 or that of the
 // first refusal that applies, and a refused call alters nothing.
+#![tactic(auto)]
+
 mod arrays;
 mod edits;
 mod fields;
@@ -75,7 +77,7 @@ pub fn remove(image: &mut [u8], u: u64, v: u64) -> u64
 }
 
 // What is read out of an image beside the links; where refusal is not 0, both numbers are 0.
-#[derive(Drop)]
+#[derive(Clone, Copy)]
 pub struct Reading {
     pub refusal: u64,
     pub meters: usize,

@@ -87,7 +87,7 @@ fn is_free(r: Record) -> bool
 }
 
 // What a walk of the link chain tells. Where ok is false, the place says nothing.
-#[derive(Drop)]
+#[derive(Clone, Copy)]
 pub struct Walk {
     pub ok: bool,
     pub place: usize,

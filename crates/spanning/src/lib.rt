@@ -1,10 +1,12 @@
 // Rooted trees over a site's links: the depth of a meter, found by recursion up its parents. Definitions are in specs/; that every spanning tree has a root with no depth over N/2 is proved in proofs/.
+#![tactic(auto)]
+
 ghost use Rattle.std.specs.Prelude.{◌≡◌};
 ghost use Rattle.lists.specs.Sums.{nth};
 ghost use Rattle.spanning.specs.Parents.{deepest, depth_of};
 
 // A meter's depth, or that the steps allowed did not lead to a root.
-#[derive(Drop)]
+#[derive(Clone, Copy)]
 pub enum Depth {
     At(usize),
     Ring,

@@ -1,5 +1,7 @@
 // Kind 3, tree: what document 01 asks of it, over the number of meters, the links as three arrays, and d.
 // Definitions are in specs/ here and in `spanning` and `arcs`; that the assignments below A are the codes of plans, and the lowest those of the best spanning trees within the neighbour limit where there is any, is proved in proofs/.
+#![tactic(auto)]
+
 ghost use Rattle.std.specs.Prelude.{ℕ, ◌+◌, ◌-◌, ◌≤◌, ◌<◌, cond, ◌≡◌, List, ◌++◌, length, drop};
 ghost use Rattle.links.specs.Links.{Link, links_of};
 ghost use Rattle.links.specs.Survey.{Ends};
@@ -20,7 +22,7 @@ mod rows;
 mod sums;
 
 // The limits of d and of the number of meters, and the bit count.
-#[derive(Drop)]
+#[derive(Clone, Copy)]
 pub struct Tree;
 
 impl Tree {

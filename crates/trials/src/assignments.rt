@@ -3,7 +3,7 @@ use crate::calls::{Case, Plan};
 use crate::{bytes, calls, counts, lists, rows};
 
 // The least of some energies, how many have it, and how many are below the penalty.
-#[derive(Drop)]
+#[derive(Clone, Copy)]
 pub struct Least {
     pub energy: u64,
     pub count: u64,

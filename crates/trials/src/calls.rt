@@ -3,7 +3,7 @@ use crate::{bytes, counts};
 use plans::{Ask, Decoded, Number};
 
 // What is asked for one site, and what is lent to the calls.
-#[derive(Drop)]
+#[derive(Clone, Copy)]
 pub struct Case {
     pub meters: usize,
     pub ask: Ask,
@@ -65,7 +65,7 @@ pub fn draw_margin(counts: &mut [u64; 130], n: usize) -> u64 {
 }
 
 // A refusal's number, or 0 and what there is of a plan beside its bytes.
-#[derive(Drop)]
+#[derive(Clone, Copy)]
 pub struct Plan {
     pub refusal: u64,
     pub weight: u64,

@@ -9,7 +9,7 @@ pub const REMOVE: usize = 1;
 pub const ADD: usize = 2;
 
 // One edit: a begin with that many meters, or it takes the link of u and v out, or puts it in.
-#[derive(Drop)]
+#[derive(Clone, Copy)]
 pub struct Edit {
     pub what: usize,
     pub meters: usize,

@@ -38,7 +38,7 @@ fn number_at(weights: &[u16; 2500], c: Case, none: u64, own: u64, i: usize, j: u
 }
 
 // The row that is asked for: its number, how many numbers are lent, the number that is to be returned and how long the part is.
-#[derive(Drop)]
+#[derive(Clone, Copy)]
 struct Asked {
     i: u64,
     lent: usize,

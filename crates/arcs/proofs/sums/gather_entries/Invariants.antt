@@ -1,0 +1,12 @@
+use Prim.Native.Nat.{◌-◌}
+use lib.ListN.{length}
+use native.Mathlib.Omega.{arith}
+use Rattle.links.proofs.Walk.{ends_at}
+use Rattle.arcs.proofs.Entered.{EnteredTo, entered_start, entered_room, entered_turn, entered_end}
+use Rattle.arcs.proofs.sums.gather_entries.Given as goal
+
+abbrev pub invariant-loop-k : goal.invariant-loop-k
+invariant-loop-k l = EnteredTo l.meters l.deepest l.bits l.us l.vs l.k l.counts
+
+abbrev pub decreases-loop-k : goal.decreases-loop-k
+decreases-loop-k l = length l.us - l.k

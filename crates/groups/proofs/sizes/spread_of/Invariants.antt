@@ -1,0 +1,11 @@
+use Prim.Native.Nat.{◌≤◌, ◌*◌, ◌-◌}
+use mathlib.Core.Path.{◌≡◌, sym}
+use native.Mathlib.Omega.{arith}
+use Rattle.groups.proofs.Counted.{spread_to, spread_start, spread_next, spread_end}
+use Rattle.groups.proofs.sizes.spread_of.Given as goal
+
+abbrev pub invariant-loop-h : goal.invariant-loop-h
+invariant-loop-h l = (l.sum ≡ spread_to l.sizes l.h) × (l.h ≤ l.m) × (l.sum ≤ 34560 * l.h)
+
+abbrev pub decreases-loop-h : goal.decreases-loop-h
+decreases-loop-h l = l.m - l.h

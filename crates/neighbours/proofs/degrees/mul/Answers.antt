@@ -1,0 +1,12 @@
+use native.Mathlib.Omega.{arith}
+use mir.Facts.{to_z-of_z}
+use mathlib.Core.Path.{refl}
+use Rattle.qubo.proofs.Ints.{nat_abs_*ℤ}
+use Rattle.qubo.proofs.Turns.{fits_abs}
+use Rattle.neighbours.proofs.degrees.mul.Goals as goal
+
+pub overflow_mul-result : goal.overflow_mul-result
+overflow_mul-result c = rw (to_z-of_z c.ranges.x, to_z-of_z c.ranges.y) (fits_abs _ (omega (arith, c.requires, nat_abs_*ℤ c.args.x c.args.y)))
+
+pub returns : goal.returns
+returns c = rw (to_z-of_z (rw (to_z-of_z c.ranges.x, to_z-of_z c.ranges.y) (fits_abs _ (omega (arith, c.requires, nat_abs_*ℤ c.args.x c.args.y)))), to_z-of_z c.ranges.x, to_z-of_z c.ranges.y) refl

@@ -1,0 +1,13 @@
+use Prim.Native.Nat.{◌+◌, ◌-◌, ◌≤◌}
+use mathlib.Core.Path.{refl}
+use lib.ListN.{length}
+use native.Mathlib.Omega.{arith}
+use Rattle.lists.proofs.Sums.{times_bit}
+use Rattle.onehot.proofs.Adding.{PartAdded, part_start, part_turn, part_done, part_bound}
+use Rattle.onehot.proofs.add_part.Given as goal
+
+abbrev pub invariant-loop-i : goal.invariant-loop-i
+invariant-loop-i l = (l.i ≤ length l.part) × PartAdded l.part l.w l.initial.sums l.i l.sums
+
+abbrev pub decreases-loop-i : goal.decreases-loop-i
+decreases-loop-i l = length l.part - l.i

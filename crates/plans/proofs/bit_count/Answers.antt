@@ -1,0 +1,23 @@
+use mathlib.Core.Path.{refl, ap, ◌∙◌}
+use lib.IntN.{pos}
+use native.Mathlib.Omega.{arith}
+use mir.Syntax.{w64}
+use mir.Facts.{to_z_pos}
+use Rattle.plans.proofs.Posed.{given, withheld}
+use Rattle.plans.proofs.Calling.{number_stops, number_given, bits_said}
+use borrow.Author.Rules.{rules}
+use Rattle.plans.proofs.bit_count.Goals as goal
+
+pub overflow_cast-result : goal.overflow_cast-result
+overflow_cast-result c =
+    let g = given c.args.image.now c.args.ask _ c.problem_in-posed.ensures _ _ _ c.in-Accepted.is in
+    omega (arith, g.few)
+
+pub returns-in-Refused : goal.returns-in-Refused
+returns-in-Refused c =
+    (refl, bits_said _ _ _ (number_stops _ _ _ _ (withheld c.args.image.now c.args.ask _ c.problem_in-posed.ensures _ c.in-Refused.is)))
+
+pub returns-in-Accepted : goal.returns-in-Accepted
+returns-in-Accepted c =
+    let g = given c.args.image.now c.args.ask _ c.problem_in-posed.ensures _ _ _ c.in-Accepted.is in
+    (refl, bits_said _ _ _ (number_given _ _ _ _ g.none (to_z_pos w64 {n = c.in-Accepted.bits} (omega (arith, g.few)) ∙ ap pos g.is_bits)))

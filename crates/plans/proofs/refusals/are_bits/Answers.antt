@@ -1,0 +1,36 @@
+use Prim.Native.Nat.{◌≤◌, ◌-◌, ◌+◌}
+use mathlib.Core.Path.{subst, sym}
+use mathlib.Core.Logic.{⊎_elim}
+use native.Mathlib.Omega.{arith}
+use lib.ListN.{length}
+use Rattle.plans.proofs.Refusing.{Topped, topped_start, topped_more, topped_same, topped_end}
+use Rattle.plans.proofs.refusals.are_bits.Goals as goal
+
+pub loop-i-init : goal.loop-i-init
+loop-i-init c = (omega arith, topped_start _)
+
+pub bounds-bits-i : goal.bounds-bits-i
+bounds-bits-i c = omega arith
+
+pub bounds-bits-i-then-top-bits : goal.bounds-bits-i-then-top-bits
+bounds-bits-i-then-top-bits c = omega arith
+
+pub overflow_add-i : goal.overflow_add-i
+overflow_add-i c = omega arith
+
+pub loop-i-smaller : goal.loop-i-smaller
+loop-i-smaller c = omega arith
+
+pub loop-i-preserved : goal.loop-i-preserved
+loop-i-preserved c =
+    let x = c.args.bits.now in
+    let l = c.loop-i in (
+      omega arith,
+      ⊎_elim
+          (λ w. subst (Topped x (l.i + 1)) (sym w.2) (topped_more x l.i l.top l.invariant.1 w.0.taken))
+          (λ w. subst (Topped x (l.i + 1)) (sym w.1) (topped_same x l.i l.top l.invariant.1 (omega (arith, w.0.left))))
+          c.if-top-bits.branch,
+    )
+
+pub returns : goal.returns
+returns c = topped_end _ _ _ (omega arith) c.loop-i.invariant.1

@@ -1,0 +1,19 @@
+use Prim.Native.Nat.{◌-◌}
+use mathlib.Core.Path.{◌≡◌, refl}
+use lib.ListN.{take, drop}
+use Rattle.site.specs.Reading.{store_from, over}
+use Rattle.site.proofs.Filling.{copy_turn, copy_end}
+use borrow.Author.Rules.{rules}
+use Rattle.site.proofs.arrays.copy_bytes.Reads as reads
+use Rattle.site.proofs.arrays.copy_bytes.Lts as lts
+use Rattle.site.proofs.arrays.copy_bytes.Goals as goal
+
+pub loop-i-init : goal.loop-i-init
+unfolding over
+loop-i-init c = refl
+
+pub loop-i-preserved : goal.loop-i-preserved
+loop-i-preserved c = copy_turn _ _ _ _ _ c.loop-i-test.true c.requires.1 c.loop-i.invariant
+
+pub returns : goal.returns
+returns c = copy_end _ _ _ _ _ c.loop-i-test.false c.requires.1 c.loop-i.invariant

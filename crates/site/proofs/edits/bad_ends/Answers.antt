@@ -1,0 +1,9 @@
+use Rattle.site.proofs.Turns.{ends_test}
+use borrow.Author.Rules.{rules}
+use Rattle.site.proofs.edits.bad_ends.Reads as reads
+use Rattle.site.proofs.edits.bad_ends.Lts as lts
+use Rattle.site.proofs.rules.either.Reads as either-reads
+use Rattle.site.proofs.edits.bad_ends.Goals as goal
+
+pub returns : goal.returns
+returns c = ends_test _ _ _ c.either-one.ensures c.either-other.ensures c.either.ensures c.either-2.ensures

@@ -1,0 +1,61 @@
+use Prim.Native.Nat.{◌-◌}
+use mathlib.Core.Path.{sym, ◌∙◌}
+use native.Mathlib.Omega.{arith}
+use borrow.Author.Tests.{not-true, not-false}
+use borrow.Author.Rules.{rules}
+use Rattle.site.specs.Layout.{first}
+use Rattle.site.proofs.Chain.{named_high}
+use Rattle.site.proofs.Filling.{fails, Walking, walking_start, walking_out, walking_bad, walking_turn, walking_end}
+use Rattle.site.proofs.rules.walk_links.Reads as reads
+use Rattle.site.proofs.rules.walk_links.Lts as lts
+use Rattle.site.proofs.fields.read_record.Reads as read-record-reads
+use Rattle.site.proofs.fields.read_word.Reads as read-word-reads
+use Rattle.site.proofs.rules.choose.Reads as choose-reads
+use Rattle.site.proofs.rules.key_of.Reads as key-of-reads
+use Rattle.site.proofs.rules.link_fits.Reads as link-fits-reads
+use Rattle.site.proofs.rules.names_record.Reads as names-record-reads
+use Rattle.site.proofs.rules.no_image.Reads as no-image-reads
+use Rattle.site.proofs.rules.walk_links.Goals as goal
+
+pub key_of-asked-requires : goal.key_of-asked-requires
+key_of-asked-requires c = (c.requires.2, c.requires.3)
+
+pub read_word-k-requires : goal.read_word-k-requires
+read_word-k-requires c = omega arith
+
+pub loop-i-init : goal.loop-i-init
+unfolding first
+loop-i-init c = walking_start _ _ _ _ _ _ _ _ _ c.read_word-k.ensures.0
+
+pub names_record-requires : goal.names_record-requires
+names_record-requires c = tt
+
+pub no_image-requires : goal.no_image-requires
+no_image-requires c = tt
+
+pub returns-then-not-names_record : goal.returns-then-not-names_record
+returns-then-not-names_record c = fails c.no_image.ensures (walking_out _ _ _ _ _ _ _ _ _ _ _ _ _ _ _ c.loop-i.invariant c.loop-i-test.true (sym c.names_record.ensures ∙ not-true _ c.if-not-names_record.true))
+
+pub read_record-r-requires : goal.read_record-r-requires
+read_record-r-requires c = (c.requires.0, named_high _ (sym c.names_record.ensures ∙ not-false _ c.if-not-names_record.false))
+
+pub key_of-key-requires : goal.key_of-key-requires
+key_of-key-requires c = (c.read_record-r.ensures.u_bound.0, c.read_record-r.ensures.u_bound.1)
+
+pub link_fits-requires : goal.link_fits-requires
+link_fits-requires c = (c.read_record-r.ensures.u_bound.0, c.read_record-r.ensures.u_bound.1, c.read_record-r.ensures.u_bound.2)
+
+pub no_image-requires-then-not-link_fits : goal.no_image-requires-then-not-link_fits
+no_image-requires-then-not-link_fits c = tt
+
+pub returns-then-not-link_fits : goal.returns-then-not-link_fits
+returns-then-not-link_fits c = fails c.no_image-then-not-link_fits.ensures (walking_bad _ _ _ _ _ _ _ _ _ _ _ _ _ _ _ c.loop-i.invariant c.loop-i-test.true (sym c.names_record.ensures ∙ not-false _ c.if-not-names_record.false) _ _ _ _ _ c.read_record-r.ensures.u_value c.read_record-r.ensures.u_bound.1 c.link_fits.ensures (not-true _ c.if-not-link_fits.true))
+
+pub choose-p-requires : goal.choose-p-requires
+choose-p-requires c = tt
+
+pub loop-i-preserved : goal.loop-i-preserved
+loop-i-preserved c = walking_turn _ _ _ _ _ _ _ _ _ _ _ _ _ _ _ c.loop-i.invariant c.loop-i-test.true (sym c.names_record.ensures ∙ not-false _ c.if-not-names_record.false) _ _ _ _ _ c.read_record-r.ensures.u_value c.read_record-r.ensures.u_bound.1 c.link_fits.ensures (not-false _ c.if-not-link_fits.false) _ _ _ c.requires.3 c.key_of-key.ensures c.key_of-asked.ensures c.choose-p.ensures
+
+pub returns : goal.returns
+returns c = walking_end _ _ _ _ _ _ _ _ _ _ _ _ _ _ _ c.loop-i.invariant c.loop-i-test.false

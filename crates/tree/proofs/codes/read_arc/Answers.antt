@@ -1,0 +1,32 @@
+use Prim.Native.Nat.{◌+◌, ◌-◌}
+use mathlib.Core.Path.{refl, ◌∙◌}
+use native.Mathlib.Omega.{arith}
+use Rattle.arcs.proofs.Slices.{slice_short}
+use Rattle.tree.proofs.ReadParents.{cut_set, one_parent, entry_added}
+use borrow.Author.Rules.{rules}
+use Rattle.tree.proofs.codes.read_arc.Goals as goal
+
+pub set_count-count-requires : goal.set_count-count-requires
+set_count-count-requires c = slice_short c.args.bits.now c.args.start (c.args.start + c.args.deepest) c.args.deepest refl c.requires.bits.2 (omega arith) c.requires.bits.0
+
+pub overflow_cast-sum : goal.overflow_cast-sum
+overflow_cast-sum c = omega (arith, c.requires.u_bound.3 (c.args.v - 1))
+
+pub overflow_mul-sum : goal.overflow_mul-sum
+overflow_mul-sum c =
+    let e = c.set_count-count.ensures ∙ cut_set _ _ _ c.requires.bits.2 in
+    omega (arith, one_parent _ _ c.args.u e c.requires.bits.3 c.requires.u_bound.0, c.requires.u_bound.3 (c.args.v - 1))
+
+pub overflow_add-sum : goal.overflow_add-sum
+overflow_add-sum c =
+    let e = c.set_count-count.ensures ∙ cut_set _ _ _ c.requires.bits.2 in
+    omega (arith, one_parent _ _ c.args.u e c.requires.bits.3 c.requires.u_bound.0, c.requires.u_bound.3 (c.args.v - 1))
+
+pub overflow_cast-plan : goal.overflow_cast-plan
+overflow_cast-plan c =
+    let e = c.set_count-count.ensures ∙ cut_set _ _ _ c.requires.bits.2 in
+    omega (arith, one_parent _ _ c.args.u e c.requires.bits.3 c.requires.u_bound.0, c.requires.u_bound.3 (c.args.v - 1))
+
+pub returns : goal.returns
+returns c =
+    entry_added _ _ _ c.requires.u_bound.1 _ _ (c.set_count-count.ensures ∙ cut_set _ _ _ c.requires.bits.2)

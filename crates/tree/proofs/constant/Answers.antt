@@ -1,0 +1,18 @@
+use Prim.Native.Nat.{◌+◌, ◌*◌}
+use mathlib.Core.Path.{sym, ◌∙◌}
+use native.Mathlib.Omega.{arith}
+use mir.Syntax.{w64}
+use mir.Facts.{to_z_pos}
+use borrow.Author.Rules.{rules}
+use Rattle.tree.proofs.Answers.{constant_small}
+use Rattle.tree.proofs.Value.{constant_is}
+use Rattle.tree.proofs.constant.Goals as goal
+
+pub overflow_mul-sum-2 : goal.overflow_mul-sum-2
+overflow_mul-sum-2 c = omega (arith, constant_small _ _ c.requires.0 c.requires.1)
+
+pub overflow_cast-result : goal.overflow_cast-result
+overflow_cast-result c = omega (arith, constant_small _ _ c.requires.0 c.requires.1)
+
+pub returns : goal.returns
+returns c = λ d ls. to_z_pos w64 {n = c.args.penalty * (1 + 2 * c.args.meters)} (omega (arith, constant_small _ _ c.requires.0 c.requires.1)) ∙ sym (constant_is c.args.penalty c.args.meters d ls)
