@@ -1,6 +1,6 @@
 -- The norm of a formula bounds what its table holds: the sum of the absolute values of its numbers, each number, and the value at every assignment.
 -- Assumes nothing.
-use mathlib.Core.Path.{◌≡◌, refl, ap, ap₂, ◌∙◌}
+use mathlib.Core.Path.{◌≡◌, refl, ap, ap₂, subst₂, ◌∙◌}
 use mathlib.Core.Bool.{Bool, true, false, cond}
 use mathlib.Core.List.{List, [], ◌∷◌}
 use Prim.Native.Nat.{ℕ, zero, suc, ◌+◌, ◌-◌, ◌*◌, ◌≤◌, ◌<◌}
@@ -133,11 +133,15 @@ pub constant_bound : (f : Formula) → nat_abs (constant_of f) ≤ formula_norm 
 constant_bound f = omega (arith, by_functions f 0)
 
 abs_rows_row : (s : ℕ → ℤ) (p : ℕ → ℕ → ℤ) (i n k : ℕ) → abs_sum (s (i + k) ∷ from (p (i + k)) (suc (i + k)) n) ≤ abs_rows s p i (k + suc n)
-abs_rows_row s p i n zero = let e : i + 0 ≡ i = omega arith in let d : 0 + suc n ≡ suc n = omega arith in rw (e, d) (omega arith)
+abs_rows_row s p i n zero =
+    let e : i ≡ i + 0 = omega arith in
+    let d : suc n ≡ 0 + suc n = omega arith in
+    subst₂ (λ (j m : ℕ). abs_sum (s j ∷ from (p j) (suc j) n) ≤ abs_rows s p i m) e d (omega arith)
 abs_rows_row s p i n (suc k) =
-    let e : i + suc k ≡ suc i + k = omega arith in
-    let d : suc k + suc n ≡ suc (k + suc n) = omega arith in
-    rw (e, d) (omega (arith, abs_rows_row s p (suc i) n k))
+    let e : suc i + k ≡ i + suc k = omega arith in
+    let d : suc (k + suc n) ≡ suc k + suc n = omega arith in
+    let h = abs_rows_row s p (suc i) n k in
+    subst₂ (λ (j m : ℕ). abs_sum (s j ∷ from (p j) (suc j) n) ≤ abs_rows s p i m) e d (omega (arith, h))
 
 pub row_bound : (f : Formula) (bits i : ℕ) → abs_sum (row_of f bits i) ≤ formula_norm f
 unfolding row_of

@@ -1,6 +1,6 @@
-use Prim.Native.Nat.{◌+◌, ◌-◌, ◌/◌}
+use Prim.Native.Nat.{◌+◌, ◌/◌}
 use native.Mathlib.Omega.{arith}
-use Rattle.links.proofs.Halving.{Halved, half_start, half_up, half_down}
+use Rattle.links.proofs.Halving.{half_start, half_up, half_down}
 use Rattle.links.proofs.first_link.Goals as goal
 
 pub loop-low-init : goal.loop-low-init

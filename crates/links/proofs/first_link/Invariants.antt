@@ -1,6 +1,5 @@
-use Prim.Native.Nat.{◌+◌, ◌-◌, ◌/◌}
-use native.Mathlib.Omega.{arith}
-use Rattle.links.proofs.Halving.{Halved, half_start, half_up, half_down}
+use Prim.Native.Nat.{◌-◌}
+use Rattle.links.proofs.Halving.{Halved}
 use Rattle.links.proofs.first_link.Given as goal
 
 abbrev pub invariant-loop-low : goal.invariant-loop-low

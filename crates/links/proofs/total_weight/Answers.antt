@@ -1,7 +1,5 @@
-use Prim.Native.Nat.{◌-◌}
 use native.Mathlib.Omega.{arith}
-use lib.ListN.{length}
-use Rattle.links.proofs.Total.{Totalled, totalled_start, totalled_turn, totalled_end}
+use Rattle.links.proofs.Total.{totalled_start, totalled_turn, totalled_end}
 use Rattle.links.proofs.total_weight.Goals as goal
 
 pub loop-k-init : goal.loop-k-init

@@ -1,7 +1,6 @@
 use Prim.Native.Nat.{◌-◌}
-use native.Mathlib.Omega.{arith}
 use lib.ListN.{length}
-use Rattle.links.proofs.Total.{Totalled, totalled_start, totalled_turn, totalled_end}
+use Rattle.links.proofs.Total.{Totalled}
 use Rattle.links.proofs.total_weight.Given as goal
 
 abbrev pub invariant-loop-k : goal.invariant-loop-k

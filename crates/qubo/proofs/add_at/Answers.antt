@@ -1,8 +1,9 @@
 use native.Mathlib.Omega.{arith}
 use mir.Syntax.{w64}
+use mir.Val.{SFits}
 use mir.Facts.{to_z-of_z}
-use borrow.Author.Rules.{rules, sfits_of}
-use lib.IntN.{pos}
+use borrow.Author.Rules.{sfits_of}
+use lib.IntN.{◌+ℤ◌, pos}
 use lib.ListN.{get_or}
 use Rattle.qubo.proofs.Ints.{nat_abs_+ℤ}
 use Rattle.qubo.proofs.RowAction.{plus_set}
@@ -16,5 +17,6 @@ overflow_add-row c =
 
 pub returns : goal.returns
 returns c =
-    rw (to_z-of_z (rw (to_z-of_z (sfits_of {w = w64} c.q-1.given), to_z-of_z c.ranges.v) (fits_abs _ (omega (arith, nat_abs_+ℤ (get_or c.args.row.now c.args.k (pos 0)) c.args.v)))), to_z-of_z (sfits_of {w = w64} c.q-1.given), to_z-of_z c.ranges.v)
+    let sum : SFits w64 (get_or c.args.row.now c.args.k (pos 0) +ℤ c.args.v) = fits_abs _ (omega (arith, nat_abs_+ℤ (get_or c.args.row.now c.args.k (pos 0)) c.args.v)) in
+    rw (to_z-of_z {z = get_or c.args.row.now c.args.k (pos 0)} (sfits_of {w = w64} c.q-1.given), to_z-of_z c.ranges.v, to_z-of_z sum)
     (plus_set c.args.row.now c.args.k c.args.v)

@@ -1,7 +1,6 @@
 use mathlib.Core.Path.{refl, sym, ◌∙◌}
 use mathlib.Core.List.{[], ◌∷◌}
 use mir.Facts.{to_z-of_z}
-use borrow.Author.Rules.{rules}
 use Rattle.qubo.specs.Rows.{run_one_hot}
 use Rattle.qubo.proofs.RowAction.{add_absent}
 use Rattle.qubo.proofs.RowShapes.{one_hot_absent}

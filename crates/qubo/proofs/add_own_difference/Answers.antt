@@ -3,7 +3,6 @@ use mathlib.Core.List.{[], ◌∷◌}
 use native.Mathlib.Nat.{le_refl}
 use native.Mathlib.Omega.{arith}
 use mir.Facts.{to_z-of_z}
-use borrow.Author.Rules.{rules}
 use lib.IntN.{pos, nat_abs, ◌*ℤ◌}
 use Rattle.qubo.specs.Terms.{single, times}
 use Rattle.qubo.specs.Rows.{add_terms, run_sum, later}
@@ -18,7 +17,7 @@ overflow_mul-same c = rw (to_z-of_z c.ranges.a) (fits_twice _ c.args.a tt (diffe
 
 pub overflow_sub-opposite : goal.overflow_sub-opposite
 overflow_sub-opposite c =
-    rw (to_z-of_z (rw (to_z-of_z c.ranges.a) (fits_twice _ c.args.a tt (difference_factor c.args.a c.args.own c.args.other c.args.i c.args.t c.args.row.now c.requires.number.0 c.requires.run_below.2))), to_z-of_z c.ranges.a)
+    rw (to_z-of_z c.ranges.a, to_z-of_z (fits_twice 2 c.args.a tt (difference_factor c.args.a c.args.own c.args.other c.args.i c.args.t c.args.row.now c.requires.number.0 c.requires.run_below.2)))
     (fits_less_twice _ c.args.a tt (difference_factor c.args.a c.args.own c.args.other c.args.i c.args.t c.args.row.now c.requires.number.0 c.requires.run_below.2))
 
 pub after-rest-requires : goal.after-rest-requires
@@ -39,7 +38,7 @@ add_run-requires c =
     let rest = later c.args.own i c.args.t in
     let e : c.add_single.new.row ≡ add_terms (single a i ∷ []) i c.args.row.now = c.add_single.ensures ∙ rw (to_z-of_z c.ranges.a) refl in (
       rw c.after-rest.ensures (run_same_top rest _ _ (add_top (single a i ∷ []) i c.args.row.now _ e) (later_below c.args.own i c.args.t _ c.requires.run_below.0 c.requires.number.0)),
-      rw (to_z-of_z (rw (to_z-of_z c.ranges.a) (fits_twice _ c.args.a tt (difference_factor c.args.a c.args.own c.args.other c.args.i c.args.t c.args.row.now c.requires.number.0 c.requires.run_below.2))), to_z-of_z c.ranges.a, e, c.after-rest.ensures)
+      rw (to_z-of_z c.ranges.a, to_z-of_z (fits_twice 2 c.args.a tt (difference_factor c.args.a c.args.own c.args.other c.args.i c.args.t c.args.row.now c.requires.number.0 c.requires.run_below.2)), e, c.after-rest.ensures)
           (second_room a _ (pos 0) i rest c.args.other c.args.row.now (difference_parts a a _ (pos 0) c.args.own c.args.other i c.args.t c.args.row.now c.requires.number.0 c.requires.run_below.2 (le_refl (nat_abs a)) (twice_abs _ a tt) (omega arith))),
     )
 
@@ -50,9 +49,9 @@ add_run-requires-2 c =
     let rest = later c.args.own i c.args.t in
     let e : c.add_single.new.row ≡ add_terms (single a i ∷ []) i c.args.row.now = c.add_single.ensures ∙ rw (to_z-of_z c.ranges.a) refl in
     let g : c.add_run.new.row ≡ add_terms (times (pos 2 *ℤ a) i (run_sum rest) ∷ []) i (add_terms (single a i ∷ []) i c.args.row.now) =
-    c.add_run.ensures ∙ rw (to_z-of_z (rw (to_z-of_z c.ranges.a) (fits_twice _ c.args.a tt (difference_factor c.args.a c.args.own c.args.other c.args.i c.args.t c.args.row.now c.requires.number.0 c.requires.run_below.2))), to_z-of_z c.ranges.a, e, c.after-rest.ensures) refl in (
+    c.add_run.ensures ∙ rw (to_z-of_z c.ranges.a, to_z-of_z (fits_twice 2 c.args.a tt (difference_factor c.args.a c.args.own c.args.other c.args.i c.args.t c.args.row.now c.requires.number.0 c.requires.run_below.2)), e, c.after-rest.ensures) refl in (
       run_same_top c.args.other _ _ (add_top (single a i ∷ []) i c.args.row.now _ refl ∙ add_top (times (pos 2 *ℤ a) i (run_sum rest) ∷ []) i (add_terms (single a i ∷ []) i c.args.row.now) _ g) c.requires.run_below.1,
-      rw (to_z-of_z (rw (to_z-of_z (rw (to_z-of_z c.ranges.a) (fits_twice _ c.args.a tt (difference_factor c.args.a c.args.own c.args.other c.args.i c.args.t c.args.row.now c.requires.number.0 c.requires.run_below.2))), to_z-of_z c.ranges.a) (fits_less_twice _ c.args.a tt (difference_factor c.args.a c.args.own c.args.other c.args.i c.args.t c.args.row.now c.requires.number.0 c.requires.run_below.2))), to_z-of_z (rw (to_z-of_z c.ranges.a) (fits_twice _ c.args.a tt (difference_factor c.args.a c.args.own c.args.other c.args.i c.args.t c.args.row.now c.requires.number.0 c.requires.run_below.2))), to_z-of_z c.ranges.a, g)
+      rw (to_z-of_z c.ranges.a, to_z-of_z (fits_twice 2 c.args.a tt (difference_factor c.args.a c.args.own c.args.other c.args.i c.args.t c.args.row.now c.requires.number.0 c.requires.run_below.2)), to_z-of_z (fits_less_twice 2 c.args.a tt (difference_factor c.args.a c.args.own c.args.other c.args.i c.args.t c.args.row.now c.requires.number.0 c.requires.run_below.2)), g)
           (third_room a (pos 2 *ℤ a) _ i rest c.args.other c.args.row.now (difference_parts a a (pos 2 *ℤ a) _ c.args.own c.args.other i c.args.t c.args.row.now c.requires.number.0 c.requires.run_below.2 (le_refl (nat_abs a)) (twice_abs 2 a tt) (less_twice_abs _ a tt))),
     )
 
@@ -63,7 +62,7 @@ returns c =
     let rest = later c.args.own i c.args.t in
     let e : c.add_single.new.row ≡ add_terms (single a i ∷ []) i c.args.row.now = c.add_single.ensures ∙ rw (to_z-of_z c.ranges.a) refl in
     let g : c.add_run.new.row ≡ add_terms (times (pos 2 *ℤ a) i (run_sum rest) ∷ []) i (add_terms (single a i ∷ []) i c.args.row.now) =
-    c.add_run.ensures ∙ rw (to_z-of_z (rw (to_z-of_z c.ranges.a) (fits_twice _ c.args.a tt (difference_factor c.args.a c.args.own c.args.other c.args.i c.args.t c.args.row.now c.requires.number.0 c.requires.run_below.2))), to_z-of_z c.ranges.a, e, c.after-rest.ensures) refl in
+    c.add_run.ensures ∙ rw (to_z-of_z c.ranges.a, to_z-of_z (fits_twice 2 c.args.a tt (difference_factor c.args.a c.args.own c.args.other c.args.i c.args.t c.args.row.now c.requires.number.0 c.requires.run_below.2)), e, c.after-rest.ensures) refl in
     c.add_run-2.ensures
-    ∙ rw (to_z-of_z (rw (to_z-of_z (rw (to_z-of_z c.ranges.a) (fits_twice _ c.args.a tt (difference_factor c.args.a c.args.own c.args.other c.args.i c.args.t c.args.row.now c.requires.number.0 c.requires.run_below.2))), to_z-of_z c.ranges.a) (fits_less_twice _ c.args.a tt (difference_factor c.args.a c.args.own c.args.other c.args.i c.args.t c.args.row.now c.requires.number.0 c.requires.run_below.2))), to_z-of_z (rw (to_z-of_z c.ranges.a) (fits_twice _ c.args.a tt (difference_factor c.args.a c.args.own c.args.other c.args.i c.args.t c.args.row.now c.requires.number.0 c.requires.run_below.2))), to_z-of_z c.ranges.a, g)
+    ∙ rw (to_z-of_z c.ranges.a, to_z-of_z (fits_twice 2 c.args.a tt (difference_factor c.args.a c.args.own c.args.other c.args.i c.args.t c.args.row.now c.requires.number.0 c.requires.run_below.2)), to_z-of_z (fits_less_twice 2 c.args.a tt (difference_factor c.args.a c.args.own c.args.other c.args.i c.args.t c.args.row.now c.requires.number.0 c.requires.run_below.2)), g)
     (sym (difference_row a c.args.own c.args.other i c.args.t c.args.row.now c.requires.run_below.0.apart c.requires.number.0 c.requires.number.1))

@@ -2,7 +2,6 @@ use mathlib.Core.Path.{◌≡◌, refl, sym, ◌∙◌}
 use mathlib.Core.List.{[], ◌∷◌}
 use native.Mathlib.Omega.{arith}
 use mir.Facts.{to_z-of_z}
-use borrow.Author.Rules.{rules}
 use lib.IntN.{pos, ◌-ℤ◌}
 use Rattle.qubo.specs.Terms.{single}
 use Rattle.qubo.specs.Rows.{add_terms, later}
@@ -26,7 +25,7 @@ add_single-requires c =
     let a = c.args.a in
     let w = one_hot_parts a (pos 0 -ℤ a) (pos 0) c.args.run c.args.i c.args.t c.args.row.now c.requires.2 (omega (arith, less_abs a)) (omega arith) in (
       number_inside c.args.run c.args.i c.args.t _ c.requires.1 c.requires.0,
-      rw (to_z-of_z (rw (to_z-of_z c.ranges.a) (fits_less c.args.a (one_hot_factor c.args.a c.args.run c.args.row.now c.requires.2))), to_z-of_z c.ranges.a) (first_room (pos 0 -ℤ a) (pos 0) (pos 0) c.args.i (later c.args.run c.args.i c.args.t) empty_run c.args.row.now w),
+      rw (to_z-of_z c.ranges.a, to_z-of_z (fits_less c.args.a (one_hot_factor c.args.a c.args.run c.args.row.now c.requires.2))) (first_room (pos 0 -ℤ a) (pos 0) (pos 0) c.args.i (later c.args.run c.args.i c.args.t) empty_run c.args.row.now w),
     )
 
 pub add_run-requires : goal.add_run-requires
@@ -34,10 +33,10 @@ add_run-requires c =
     let a = c.args.a in
     let i = c.args.i in
     let rest = later c.args.run i c.args.t in
-    let e : c.add_single.new.row ≡ add_terms (single (pos 0 -ℤ a) i ∷ []) i c.args.row.now = c.add_single.ensures ∙ rw (to_z-of_z (rw (to_z-of_z c.ranges.a) (fits_less c.args.a (one_hot_factor c.args.a c.args.run c.args.row.now c.requires.2))), to_z-of_z c.ranges.a) refl in
+    let e : c.add_single.new.row ≡ add_terms (single (pos 0 -ℤ a) i ∷ []) i c.args.row.now = c.add_single.ensures ∙ rw (to_z-of_z c.ranges.a, to_z-of_z (fits_less c.args.a (one_hot_factor c.args.a c.args.run c.args.row.now c.requires.2))) refl in
     let top = add_top (single (pos 0 -ℤ a) i ∷ []) i c.args.row.now _ e in (
       rw c.after-rest.ensures (run_same_top rest _ _ top (later_below c.args.run i c.args.t _ c.requires.1 c.requires.0)),
-      rw (to_z-of_z (rw (to_z-of_z c.ranges.a) (fits_twice _ c.args.a tt (one_hot_factor c.args.a c.args.run c.args.row.now c.requires.2))), to_z-of_z c.ranges.a, e, c.after-rest.ensures)
+      rw (to_z-of_z c.ranges.a, to_z-of_z (fits_twice 2 c.args.a tt (one_hot_factor c.args.a c.args.run c.args.row.now c.requires.2)), e, c.after-rest.ensures)
           (second_room (pos 0 -ℤ a) _ (pos 0) i rest empty_run c.args.row.now (one_hot_parts a (pos 0 -ℤ a) _ c.args.run i c.args.t c.args.row.now c.requires.2 (omega (arith, less_abs a)) (twice_abs _ a tt))),
     )
 
@@ -45,6 +44,6 @@ pub returns : goal.returns
 returns c =
     let a = c.args.a in
     let i = c.args.i in
-    let e : c.add_single.new.row ≡ add_terms (single (pos 0 -ℤ a) i ∷ []) i c.args.row.now = c.add_single.ensures ∙ rw (to_z-of_z (rw (to_z-of_z c.ranges.a) (fits_less c.args.a (one_hot_factor c.args.a c.args.run c.args.row.now c.requires.2))), to_z-of_z c.ranges.a) refl in
+    let e : c.add_single.new.row ≡ add_terms (single (pos 0 -ℤ a) i ∷ []) i c.args.row.now = c.add_single.ensures ∙ rw (to_z-of_z c.ranges.a, to_z-of_z (fits_less c.args.a (one_hot_factor c.args.a c.args.run c.args.row.now c.requires.2))) refl in
     c.add_run.ensures
-    ∙ rw (to_z-of_z (rw (to_z-of_z c.ranges.a) (fits_twice _ c.args.a tt (one_hot_factor c.args.a c.args.run c.args.row.now c.requires.2))), to_z-of_z c.ranges.a, e, c.after-rest.ensures) (sym (one_hot_row a c.args.run i c.args.t c.args.row.now c.requires.1.apart c.requires.0))
+    ∙ rw (to_z-of_z c.ranges.a, to_z-of_z (fits_twice 2 c.args.a tt (one_hot_factor c.args.a c.args.run c.args.row.now c.requires.2)), e, c.after-rest.ensures) (sym (one_hot_row a c.args.run i c.args.t c.args.row.now c.requires.1.apart c.requires.0))

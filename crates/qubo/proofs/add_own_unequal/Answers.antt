@@ -2,7 +2,6 @@ use mathlib.Core.Path.{◌≡◌, refl, sym, ◌∙◌}
 use mathlib.Core.List.{[], ◌∷◌}
 use native.Mathlib.Omega.{arith}
 use mir.Facts.{to_z-of_z}
-use borrow.Author.Rules.{rules}
 use Rattle.qubo.specs.Terms.{single}
 use Rattle.qubo.specs.Rows.{add_terms}
 use Rattle.qubo.proofs.RowAction.{add_top}
@@ -14,7 +13,7 @@ pub overflow_mul-twice : goal.overflow_mul-twice
 overflow_mul-twice c = rw (to_z-of_z c.ranges.v) (fits_twice _ c.args.v tt (unequal_factor c.args.v c.args.i c.args.j c.args.row.now c.requires.2))
 
 pub overflow_sub-minus : goal.overflow_sub-minus
-overflow_sub-minus c = rw (to_z-of_z (rw (to_z-of_z c.ranges.v) (fits_twice _ c.args.v tt (unequal_factor c.args.v c.args.i c.args.j c.args.row.now c.requires.2))), to_z-of_z c.ranges.v) (fits_less_twice _ c.args.v tt (unequal_factor c.args.v c.args.i c.args.j c.args.row.now c.requires.2))
+overflow_sub-minus c = rw (to_z-of_z c.ranges.v, to_z-of_z (fits_twice 2 c.args.v tt (unequal_factor c.args.v c.args.i c.args.j c.args.row.now c.requires.2))) (fits_less_twice _ c.args.v tt (unequal_factor c.args.v c.args.i c.args.j c.args.row.now c.requires.2))
 
 pub add_single-requires : goal.add_single-requires
 add_single-requires c =
@@ -26,7 +25,7 @@ add_to_own-requires c =
     let i = c.args.i in
     let e : c.add_single.new.row ≡ add_terms (single v i ∷ []) i c.args.row.now = c.add_single.ensures ∙ rw (to_z-of_z c.ranges.v) refl in (
       omega (arith, c.requires.1, add_top (single v i ∷ []) i c.args.row.now _ e),
-      rw (to_z-of_z (rw (to_z-of_z (rw (to_z-of_z c.ranges.v) (fits_twice _ c.args.v tt (unequal_factor c.args.v c.args.i c.args.j c.args.row.now c.requires.2))), to_z-of_z c.ranges.v) (fits_less_twice _ c.args.v tt (unequal_factor c.args.v c.args.i c.args.j c.args.row.now c.requires.2))), to_z-of_z (rw (to_z-of_z c.ranges.v) (fits_twice _ c.args.v tt (unequal_factor c.args.v c.args.i c.args.j c.args.row.now c.requires.2))), to_z-of_z c.ranges.v, e) (unequal_pair v i c.args.j c.args.row.now c.requires.2 _ i c.args.j (less_twice_abs _ v tt)),
+      rw (to_z-of_z c.ranges.v, to_z-of_z (fits_twice 2 c.args.v tt (unequal_factor c.args.v c.args.i c.args.j c.args.row.now c.requires.2)), to_z-of_z (fits_less_twice 2 c.args.v tt (unequal_factor c.args.v c.args.i c.args.j c.args.row.now c.requires.2)), e) (unequal_pair v i c.args.j c.args.row.now c.requires.2 _ i c.args.j (less_twice_abs _ v tt)),
     )
 
 pub returns : goal.returns
@@ -35,4 +34,4 @@ returns c =
     let i = c.args.i in
     let e : c.add_single.new.row ≡ add_terms (single v i ∷ []) i c.args.row.now = c.add_single.ensures ∙ rw (to_z-of_z c.ranges.v) refl in
     c.add_to_own.ensures
-    ∙ rw (to_z-of_z (rw (to_z-of_z (rw (to_z-of_z c.ranges.v) (fits_twice _ c.args.v tt (unequal_factor c.args.v c.args.i c.args.j c.args.row.now c.requires.2))), to_z-of_z c.ranges.v) (fits_less_twice _ c.args.v tt (unequal_factor c.args.v c.args.i c.args.j c.args.row.now c.requires.2))), to_z-of_z (rw (to_z-of_z c.ranges.v) (fits_twice _ c.args.v tt (unequal_factor c.args.v c.args.i c.args.j c.args.row.now c.requires.2))), to_z-of_z c.ranges.v, e) (sym (unequal_low v i c.args.j c.args.row.now c.requires.0))
+    ∙ rw (to_z-of_z c.ranges.v, to_z-of_z (fits_twice 2 c.args.v tt (unequal_factor c.args.v c.args.i c.args.j c.args.row.now c.requires.2)), to_z-of_z (fits_less_twice 2 c.args.v tt (unequal_factor c.args.v c.args.i c.args.j c.args.row.now c.requires.2)), e) (sym (unequal_low v i c.args.j c.args.row.now c.requires.0))

@@ -7,7 +7,6 @@ use Rattle.qubo.specs.Terms.{bit, pair}
 use Rattle.qubo.specs.Rows.{add_terms}
 use Rattle.qubo.proofs.RowAction.{add_absent}
 use Rattle.qubo.proofs.RowTerms.{pair_absent, product_swap}
-use borrow.Author.Rules.{rules}
 use Rattle.qubo.proofs.add_pair.Goals as goal
 
 pub add_to_own-requires : goal.add_to_own-requires

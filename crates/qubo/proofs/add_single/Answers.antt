@@ -3,7 +3,6 @@ use mathlib.Core.List.{[], ◌∷◌}
 use Prim.Native.Nat.{ℕ}
 use native.Mathlib.Omega.{arith}
 use mir.Facts.{to_z-of_z}
-use borrow.Author.Rules.{rules}
 use Rattle.qubo.specs.Table.{only}
 use Rattle.qubo.specs.Terms.{single}
 use Rattle.qubo.specs.Rows.{plus, add_terms}
@@ -13,7 +12,7 @@ use Rattle.qubo.proofs.add_single.Goals as goal
 
 pub add_at-requires : goal.add_at-requires
 add_at-requires c =
-    (omega (arith, c.requires.0), rw (to_z-of_z c.ranges.v) (omega (arith, c.requires.1.room 0, single_norm c.args.v c.args.p)))
+    record { k_in_bounds = omega (arith, c.requires.0); v_bound = rw (to_z-of_z c.ranges.v) (omega (arith, c.requires.1.room 0, single_norm c.args.v c.args.p)) }
 
 pub returns-then-i-p : goal.returns-then-i-p
 returns-then-i-p c =

@@ -1,7 +1,6 @@
 use mathlib.Core.Path.{refl, sym, ◌∙◌}
 use mathlib.Core.List.{[], ◌∷◌}
 use mir.Facts.{to_z-of_z}
-use borrow.Author.Rules.{rules}
 use Rattle.qubo.specs.Rows.{run_difference}
 use Rattle.qubo.proofs.RowAction.{add_absent}
 use Rattle.qubo.proofs.RowShapes.{difference_absent, difference_swap}
@@ -17,14 +16,14 @@ returns-then-t-rights c =
 
 pub add_own_difference-requires : goal.add_own_difference-requires
 add_own_difference-requires c =
-    ((c.number_in-s.ensures.0 c.if-s-lefts.true, c.number_in-t.ensures.1 c.if-t-rights.false), (c.requires.0, c.requires.1, rw (to_z-of_z c.ranges.a) c.requires.2))
+    record { number = (c.number_in-s.ensures.0 c.if-s-lefts.true, c.number_in-t.ensures.1 c.if-t-rights.false); run_below = (c.requires.0, c.requires.1, rw (to_z-of_z c.ranges.a) c.requires.2) }
 
 pub add_own_difference-requires-then-t-rights-2 : goal.add_own_difference-requires-then-t-rights-2
 add_own_difference-requires-then-t-rights-2 c =
-    (
-      (c.number_in-t.ensures.0 c.if-t-rights-2.true, c.number_in-s.ensures.1 c.if-s-lefts.false),
-      (c.requires.1, c.requires.0, rw (to_z-of_z c.ranges.a) (difference_room_swap c.args.a c.args.left c.args.right c.args.row.now c.requires.2)),
-    )
+    record {
+      number = (c.number_in-t.ensures.0 c.if-t-rights-2.true, c.number_in-s.ensures.1 c.if-s-lefts.false);
+      run_below = (c.requires.1, c.requires.0, rw (to_z-of_z c.ranges.a) (difference_room_swap c.args.a c.args.left c.args.right c.args.row.now c.requires.2));
+    }
 
 pub returns-else-t-rights : goal.returns-else-t-rights
 returns-else-t-rights c =

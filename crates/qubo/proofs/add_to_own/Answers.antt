@@ -4,7 +4,6 @@ use Prim.Native.Nat.{◌-◌}
 use native.Mathlib.Omega.{arith}
 use lib.IntN.{pos}
 use mir.Facts.{to_z-of_z}
-use borrow.Author.Rules.{rules}
 use Rattle.qubo.specs.Table.{only}
 use Rattle.qubo.specs.Rows.{plus}
 use Rattle.qubo.proofs.RowTerms.{pair_here, pair_below, times_norm}
@@ -12,10 +11,10 @@ use Rattle.qubo.proofs.add_to_own.Goals as goal
 
 pub add_at-requires : goal.add_at-requires
 add_at-requires c =
-    (
-      omega (arith, c.requires.0),
-      rw (to_z-of_z c.ranges.v) (omega (arith, c.requires.1.room (c.args.j - c.args.i), times_norm c.args.v c.args.i ((c.args.j, pos 1) ∷ []))),
-    )
+    record {
+      k_in_bounds = omega (arith, c.requires.0);
+      v_bound = rw (to_z-of_z c.ranges.v) (omega (arith, c.requires.1.room (c.args.j - c.args.i), times_norm c.args.v c.args.i ((c.args.j, pos 1) ∷ [])));
+    }
 
 pub returns-then-i-j : goal.returns-then-i-j
 returns-then-i-j c =

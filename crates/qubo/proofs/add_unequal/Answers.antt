@@ -3,7 +3,6 @@ use mathlib.Core.List.{[], ◌∷◌}
 use Prim.Native.Nat.{ℕ}
 use native.Mathlib.Omega.{arith}
 use mir.Facts.{to_z-of_z}
-use borrow.Author.Rules.{rules}
 use Rattle.qubo.specs.Terms.{unequal}
 use Rattle.qubo.specs.Rows.{add_terms}
 use Rattle.qubo.proofs.RowAction.{add_absent}

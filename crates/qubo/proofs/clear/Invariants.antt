@@ -1,11 +1,7 @@
-use mathlib.Core.Path.{◌≡◌, refl, ap, ◌∙◌}
+use mathlib.Core.Path.{◌≡◌}
 use Prim.Native.Nat.{ℕ, ◌≤◌, ◌<◌, ◌-◌}
-use native.Mathlib.Omega.{arith}
-use borrow.Author.Rules.{rules}
 use lib.IntN.{pos}
-use lib.ListN.{length, get_or, length-set}
-use Rattle.qubo.specs.Rows.{zeros}
-use Rattle.qubo.proofs.Turns.{all_zero, zero_next}
+use lib.ListN.{length, get_or}
 use Rattle.qubo.proofs.clear.Given as goal
 
 abbrev pub invariant-loop-k : goal.invariant-loop-k

@@ -1,5 +1,4 @@
 use native.Mathlib.Omega.{arith}
-use borrow.Author.Rules.{rules}
 use Rattle.qubo.proofs.Runs.{run_before, run_between, run_number}
 use Rattle.qubo.proofs.number_in.Goals as goal
 
