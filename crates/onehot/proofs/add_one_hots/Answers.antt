@@ -3,7 +3,6 @@ use native.Mathlib.Omega.{arith}
 use native.Mathlib.Nat.{mod-le}
 use mir.Syntax.{w64}
 use mir.Facts.{to_z_pos}
-use borrow.Author.Rules.{rules}
 use Rattle.onehot.proofs.Rows.{own_added, own_room, own_small, own_below}
 use Rattle.onehot.proofs.add_one_hots.Goals as goal
 

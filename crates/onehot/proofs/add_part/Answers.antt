@@ -1,9 +1,8 @@
-use Prim.Native.Nat.{◌+◌, ◌-◌, ◌≤◌}
+use Prim.Native.Nat.{◌+◌}
 use mathlib.Core.Path.{refl}
-use lib.ListN.{length}
 use native.Mathlib.Omega.{arith}
 use Rattle.lists.proofs.Sums.{times_bit}
-use Rattle.onehot.proofs.Adding.{PartAdded, part_start, part_turn, part_done, part_bound}
+use Rattle.onehot.proofs.Adding.{part_start, part_turn, part_done, part_bound}
 use Rattle.onehot.proofs.add_part.Goals as goal
 
 pub loop-i-init : goal.loop-i-init

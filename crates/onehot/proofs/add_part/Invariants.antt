@@ -1,9 +1,6 @@
-use Prim.Native.Nat.{◌+◌, ◌-◌, ◌≤◌}
-use mathlib.Core.Path.{refl}
+use Prim.Native.Nat.{◌-◌, ◌≤◌}
 use lib.ListN.{length}
-use native.Mathlib.Omega.{arith}
-use Rattle.lists.proofs.Sums.{times_bit}
-use Rattle.onehot.proofs.Adding.{PartAdded, part_start, part_turn, part_done, part_bound}
+use Rattle.onehot.proofs.Adding.{PartAdded}
 use Rattle.onehot.proofs.add_part.Given as goal
 
 abbrev pub invariant-loop-i : goal.invariant-loop-i

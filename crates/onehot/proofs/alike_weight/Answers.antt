@@ -1,11 +1,9 @@
-use Prim.Native.Nat.{◌-◌}
 use mathlib.Core.Path.{◌∙◌}
-use mathlib.Core.Logic.{⊎_elim}
-use lib.ListN.{length}
 use native.Mathlib.Omega.{arith}
 use Rattle.links.specs.Links.{links_of}
-use Rattle.links.proofs.Walk.{link_at, Summed, summed_start, summed_end}
-use Rattle.onehot.proofs.LinkSums.{alike_link, alike_sum, alike_small, alike_turn, alike_skip}
+use Rattle.links.proofs.Walk.{link_at, summed_start, summed_end}
+use Rattle.onehot.proofs.LinkSums.{alike_sum, alike_small, alike_turn, alike_skip}
+use Rattle.onehot.proofs.alike_weight.Goals.{then-plan-u, else-plan-u}
 use Rattle.onehot.proofs.alike_weight.Goals as goal
 
 pub loop-k-init : goal.loop-k-init
@@ -65,10 +63,10 @@ loop-k-smaller c = omega arith
 pub loop-k-preserved : goal.loop-k-preserved
 loop-k-preserved c =
     let l = c.loop-k in
-    ⊎_elim
-    (λ w. alike_turn _ _ _ _ _ c.requires _ c.loop-k-test.true _ _ l.invariant w.0.taken w.2)
-    (λ w. alike_skip _ _ _ _ _ c.requires _ c.loop-k-test.true _ _ l.invariant w.0.left w.1)
-    c.if-plan-u.branch
+    elim c.if-plan-u.branch [
+      | then-plan-u w ↦ alike_turn _ _ _ _ _ c.requires _ c.loop-k-test.true _ _ l.invariant w.if-plan-u.true w.sum-is
+      | else-plan-u w ↦ alike_skip _ _ _ _ _ c.requires _ c.loop-k-test.true _ _ l.invariant w.if-plan-u.false w.sum-is
+    ]
 
 pub returns : goal.returns
 returns c = summed_end _ _ _ _ _ _ c.loop-k.invariant (omega arith) ∙ alike_sum _ _

@@ -1,11 +1,7 @@
-use Prim.Native.Nat.{◌≤◌, ◌-◌}
-use mathlib.Core.Path.{◌≡◌}
-use mathlib.Core.Logic.{⊎_elim}
 use native.Mathlib.Omega.{arith}
-use lib.ListN.{length}
-use Rattle.lists.specs.Sums.{sum_to}
 use Rattle.lists.proofs.Sums.{sum_to_zero}
 use Rattle.onehot.proofs.Turns.{differ_at, apart_more, apart_same, apart_are}
+use Rattle.onehot.proofs.apart.Goals.{then-part-i, else-part-i}
 use Rattle.onehot.proofs.apart.Goals as goal
 
 pub loop-i-init : goal.loop-i-init
@@ -30,10 +26,10 @@ pub loop-i-preserved : goal.loop-i-preserved
 loop-i-preserved c =
     let s = c.args in
     let i = c.loop-i.i in
-    ⊎_elim
-    (λ w. omega (arith, apart_more s.part.now s.other.now i (λ e. omega (arith, w.0.taken))))
-    (λ w. omega (arith, apart_same s.part.now s.other.now i (omega (arith, w.0.left))))
-    c.if-part-i.branch
+    elim c.if-part-i.branch [
+      | then-part-i w ↦ omega (arith, apart_more s.part.now s.other.now i (λ e. omega (arith, w.if-part-i.true)))
+      | else-part-i w ↦ omega (arith, apart_same s.part.now s.other.now i (omega (arith, w.if-part-i.false)))
+    ]
 
 pub overflow_cast-result : goal.overflow_cast-result
 overflow_cast-result c = omega arith

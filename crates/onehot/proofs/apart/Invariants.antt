@@ -1,11 +1,8 @@
 use Prim.Native.Nat.{◌≤◌, ◌-◌}
 use mathlib.Core.Path.{◌≡◌}
-use mathlib.Core.Logic.{⊎_elim}
-use native.Mathlib.Omega.{arith}
 use lib.ListN.{length}
 use Rattle.lists.specs.Sums.{sum_to}
-use Rattle.lists.proofs.Sums.{sum_to_zero}
-use Rattle.onehot.proofs.Turns.{differ_at, apart_more, apart_same, apart_are}
+use Rattle.onehot.proofs.Turns.{differ_at}
 use Rattle.onehot.proofs.apart.Given as goal
 
 abbrev pub invariant-loop-i : goal.invariant-loop-i

@@ -1,8 +1,5 @@
 use Prim.Native.Nat.{ℕ, ◌≤◌, ◌<◌, ◌-◌}
-use native.Mathlib.Omega.{arith}
-use borrow.Author.Count.{below_more}
 use lib.ListN.{get_or}
-use Rattle.onehot.proofs.Turns.{choices_size, choices_no, choices_yes}
 use Rattle.onehot.proofs.are_choices.Given as goal
 
 abbrev pub invariant-loop-v : goal.invariant-loop-v

@@ -1,8 +1,7 @@
-use Prim.Native.Nat.{◌≤◌, ◌-◌}
 use mathlib.Core.Path.{refl}
-use lib.ListN.{length, get_or}
+use lib.ListN.{get_or}
 use native.Mathlib.Omega.{arith}
-use Rattle.onehot.proofs.Counts.{CountsTo, counts_start, counts_low, counts_turn, counts_end}
+use Rattle.onehot.proofs.Counts.{counts_start, counts_low, counts_turn, counts_end}
 use Rattle.onehot.proofs.count_choices.Goals as goal
 
 pub loop-v-init : goal.loop-v-init

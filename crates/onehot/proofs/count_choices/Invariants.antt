@@ -1,8 +1,6 @@
 use Prim.Native.Nat.{◌≤◌, ◌-◌}
-use mathlib.Core.Path.{refl}
-use lib.ListN.{length, get_or}
-use native.Mathlib.Omega.{arith}
-use Rattle.onehot.proofs.Counts.{CountsTo, counts_start, counts_low, counts_turn, counts_end}
+use lib.ListN.{length}
+use Rattle.onehot.proofs.Counts.{CountsTo}
 use Rattle.onehot.proofs.count_choices.Given as goal
 
 abbrev pub invariant-loop-v : goal.invariant-loop-v

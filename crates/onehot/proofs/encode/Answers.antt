@@ -1,9 +1,8 @@
-use Prim.Native.Nat.{◌≤◌, ◌*◌, ◌-◌}
-use mathlib.Core.Path.{◌≡◌, refl, sym, ◌∙◌}
-use mathlib.Core.Logic.{⊎_elim}
+use mathlib.Core.Path.{refl, sym, ◌∙◌}
 use native.Mathlib.Omega.{arith}
 use lib.ListN.{length, get_or, length-set}
-use Rattle.onehot.proofs.Turns.{Coded, coded_start, coded_skip, coded_turn, coded_end, place_in}
+use Rattle.onehot.proofs.Turns.{coded_start, coded_skip, coded_turn, coded_end, place_in}
+use Rattle.onehot.proofs.encode.Goals.{then-c-ne0, else-c-ne0}
 use Rattle.onehot.proofs.encode.Goals as goal
 
 pub clear_bits-requires : goal.clear_bits-requires
@@ -47,12 +46,11 @@ pub loop-v-preserved : goal.loop-v-preserved
 loop-v-preserved c =
     let l = c.loop-v in
     let p = c.args.plan.now in
-    ⊎_elim
-    (λ w.
-    let at = place_in c.args.meters c.args.n (get_or p l.v 0) l.v (length l.bits) w.0.taken (c.requires.1 l.v (omega arith)) (omega arith) l.invariant.1 in
-    rw w.1 (omega arith, simp length-set l.invariant.1, coded_turn c.args.n p l.bits l.v (get_or p l.v 0) refl w.0.taken (c.requires.1 l.v (omega arith)) at.1 l.invariant.2))
-    (λ w. rw w.1 (omega arith, l.invariant.1, coded_skip c.args.n p l.bits l.v (omega (arith, w.0.left)) l.invariant.2))
-    c.if-c-ne0.branch
+    elim c.if-c-ne0.branch [
+      | then-c-ne0 w ↦ (let at = place_in c.args.meters c.args.n (get_or p l.v 0) l.v (length l.bits) w.if-c-ne0.true (c.requires.1 l.v (omega arith)) (omega arith) l.invariant.1 in
+          rw w.bits-is (omega arith, simp length-set l.invariant.1, coded_turn c.args.n p l.bits l.v (get_or p l.v 0) refl w.if-c-ne0.true (c.requires.1 l.v (omega arith)) at.1 l.invariant.2))
+      | else-c-ne0 w ↦ rw w.bits-is (omega arith, l.invariant.1, coded_skip c.args.n p l.bits l.v (omega (arith, w.if-c-ne0.false)) l.invariant.2)
+    ]
 
 pub shape_of-bits : goal.shape_of-bits
 shape_of-bits c = c.loop-v.invariant.1 ∙ sym c.requires.2

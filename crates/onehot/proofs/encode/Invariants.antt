@@ -1,9 +1,7 @@
 use Prim.Native.Nat.{◌≤◌, ◌*◌, ◌-◌}
-use mathlib.Core.Path.{◌≡◌, refl, sym, ◌∙◌}
-use mathlib.Core.Logic.{⊎_elim}
-use native.Mathlib.Omega.{arith}
-use lib.ListN.{length, get_or, length-set}
-use Rattle.onehot.proofs.Turns.{Coded, coded_start, coded_skip, coded_turn, coded_end, place_in}
+use mathlib.Core.Path.{◌≡◌}
+use lib.ListN.{length}
+use Rattle.onehot.proofs.Turns.{Coded}
 use Rattle.onehot.proofs.encode.Given as goal
 
 abbrev pub invariant-loop-v : goal.invariant-loop-v

@@ -1,6 +1,5 @@
 use Prim.Native.Nat.{◌-◌}
 use native.Mathlib.Omega.{arith}
-use borrow.Author.Rules.{rules}
 use Rattle.onehot.proofs.Turns.{square_up, square_down, square_fits}
 use Rattle.onehot.proofs.gap_squared.Goals as goal
 

@@ -1,9 +1,7 @@
 use Prim.Native.Nat.{◌≤◌, ◌-◌}
-use mathlib.Core.Path.{◌≡◌, sym, ◌∙◌}
-use native.Mathlib.Omega.{arith}
+use mathlib.Core.Path.{◌≡◌}
 use lib.ListN.{length}
 use Rattle.lists.specs.Sums.{lowest, nth}
-use Rattle.lists.proofs.Sums.{lowest_zero, lowest_skip, lowest_found, nth_suc}
 use Rattle.onehot.proofs.lowest_set.Given as goal
 
 abbrev pub invariant-loop-i : goal.invariant-loop-i

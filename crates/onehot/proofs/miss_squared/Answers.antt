@@ -1,6 +1,5 @@
 use Prim.Native.Nat.{◌-◌}
 use native.Mathlib.Omega.{arith}
-use borrow.Author.Rules.{rules}
 use Rattle.onehot.proofs.Turns.{miss_none, miss_some, square_47}
 use Rattle.onehot.proofs.miss_squared.Goals as goal
 

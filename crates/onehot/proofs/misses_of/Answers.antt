@@ -1,7 +1,7 @@
-use Prim.Native.Nat.{◌≤◌, ◌+◌, ◌*◌, ◌-◌}
+use Prim.Native.Nat.{◌+◌}
 use mathlib.Core.Path.{◌≡◌, ap, ◌∙◌}
 use native.Mathlib.Omega.{arith}
-use Rattle.onehot.specs.Choices.{bit_at, miss_squared, misses}
+use Rattle.onehot.specs.Choices.{bit_at, miss_squared}
 use Rattle.onehot.proofs.Parts.{part_within, set_at_le, cut_short, cut_count}
 use Rattle.onehot.proofs.Turns.{misses_zero, misses_next}
 use Rattle.onehot.proofs.misses_of.Goals as goal

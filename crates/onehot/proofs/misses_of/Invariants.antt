@@ -1,9 +1,6 @@
-use Prim.Native.Nat.{◌≤◌, ◌+◌, ◌*◌, ◌-◌}
-use mathlib.Core.Path.{◌≡◌, ap, ◌∙◌}
-use native.Mathlib.Omega.{arith}
-use Rattle.onehot.specs.Choices.{bit_at, miss_squared, misses}
-use Rattle.onehot.proofs.Parts.{part_within, set_at_le, cut_short, cut_count}
-use Rattle.onehot.proofs.Turns.{misses_zero, misses_next}
+use Prim.Native.Nat.{◌≤◌, ◌*◌, ◌-◌}
+use mathlib.Core.Path.{◌≡◌}
+use Rattle.onehot.specs.Choices.{bit_at, misses}
 use Rattle.onehot.proofs.misses_of.Given as goal
 
 abbrev pub invariant-loop-v : goal.invariant-loop-v

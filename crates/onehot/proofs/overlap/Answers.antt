@@ -1,8 +1,5 @@
-use Prim.Native.Nat.{◌≤◌, ◌-◌}
-use mathlib.Core.Path.{◌≡◌}
 use native.Mathlib.Omega.{arith}
-use lib.ListN.{length, get_or}
-use Rattle.lists.specs.Sums.{sum_to}
+use lib.ListN.{get_or}
 use Rattle.lists.proofs.Sums.{sum_to_zero}
 use Rattle.onehot.proofs.Turns.{both_set, both_next, both_are, bit_bit}
 use Rattle.onehot.proofs.overlap.Goals as goal

@@ -1,10 +1,8 @@
 use Prim.Native.Nat.{◌≤◌, ◌-◌}
 use mathlib.Core.Path.{◌≡◌}
-use native.Mathlib.Omega.{arith}
-use lib.ListN.{length, get_or}
+use lib.ListN.{length}
 use Rattle.lists.specs.Sums.{sum_to}
-use Rattle.lists.proofs.Sums.{sum_to_zero}
-use Rattle.onehot.proofs.Turns.{both_set, both_next, both_are, bit_bit}
+use Rattle.onehot.proofs.Turns.{both_set}
 use Rattle.onehot.proofs.overlap.Given as goal
 
 abbrev pub invariant-loop-i : goal.invariant-loop-i

@@ -1,10 +1,9 @@
-use Prim.Native.Nat.{◌≤◌, ◌+◌, ◌-◌}
-use mathlib.Core.Path.{◌≡◌, refl, ◌∙◌}
+use Prim.Native.Nat.{◌+◌}
+use mathlib.Core.Path.{refl, ◌∙◌}
 use native.Mathlib.Omega.{arith}
-use lib.ListN.{length, take, length-set}
-use borrow.Author.Rules.{rules}
+use lib.ListN.{length-set}
 use Rattle.lists.proofs.Sums.{lowest_le}
-use Rattle.onehot.specs.Choices.{bit_at, candidate}
+use Rattle.onehot.specs.Choices.{bit_at}
 use Rattle.onehot.proofs.Parts.{part_within, cut_lowest}
 use Rattle.onehot.proofs.Candidates.{read_start, read_next, read_end}
 use Rattle.onehot.proofs.read_off.Goals as goal

@@ -1,9 +1,7 @@
 use Prim.Native.Nat.{◌≤◌, ◌-◌}
 use mathlib.Core.Path.{◌≡◌}
-use native.Mathlib.Omega.{arith}
 use lib.ListN.{length}
 use Rattle.lists.specs.Sums.{sum_to, nth}
-use Rattle.lists.proofs.Sums.{sum_to_next, sum_to_zero, nth_suc}
 use Rattle.onehot.proofs.set_count.Given as goal
 
 abbrev pub invariant-loop-i : goal.invariant-loop-i
