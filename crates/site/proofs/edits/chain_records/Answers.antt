@@ -24,7 +24,7 @@ put_word-requires c = omega arith
 
 pub loop-k-preserved : goal.loop-k-preserved
 loop-k-preserved c = let l = c.loop-k in
-    (omega arith, c.put_word.auto.0 ∙ l.invariant.1, chained_turn _ _ _ _ c.slot_of.ensures.0 (rw (← l.invariant.2) c.put_word.ensures))
+    (omega arith, c.put_word.auto.s ∙ l.invariant.1, chained_turn _ _ _ _ c.slot_of.ensures.0 (rw (← l.invariant.2) c.put_word.ensures))
 
 pub shape_of-s : goal.shape_of-s
 shape_of-s c = c.loop-k.invariant.1 ∙ sym c.requires

@@ -2,7 +2,6 @@ use Rattle.site.proofs.Chain.{named_high}
 use Rattle.site.proofs.Turns.{free_test}
 use borrow.Author.Rules.{rules}
 use mathlib.Core.Path.{◌≡◌, sym, ◌∙◌}
-use borrow.Author.Tests.{not-true, not-false}
 use Rattle.site.specs.Layout.{first_free}
 use Rattle.site.specs.Inner.{walk_free}
 use Rattle.site.proofs.Walked.{free_out, free_bad, free_on, free_end}
