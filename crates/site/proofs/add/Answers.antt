@@ -4,12 +4,6 @@ use mathlib.Core.Path.{sym, ◌∙◌}
 use native.Mathlib.Omega.{arith}
 use Rattle.site.specs.Layout.{first_free}
 use Rattle.site.proofs.Calls.{add_alike, add_weight, add_present, add_full, add_accepts, add_stores}
-use borrow.Author.Rules.{rules}
-use Rattle.site.proofs.add.Reads as reads
-use Rattle.site.proofs.add.Lts as lts
-use Rattle.site.proofs.edits.find.Reads as find-reads
-use Rattle.site.proofs.edits.insert.Reads as insert-reads
-use Rattle.site.proofs.fields.read_word.Reads as read-word-reads
 use Rattle.site.proofs.add.Goals as goal
 
 pub returns-then-found-ne0 : goal.returns-then-found-ne0

@@ -2,13 +2,6 @@ use mathlib.Core.Path.{sym, ◌∙◌}
 use lib.ListN.{length-set}
 use native.Mathlib.Omega.{arith}
 use Rattle.site.proofs.Calls.{begin_length, begin_outside, begin_stores, begin_within}
-use borrow.Author.Rules.{rules}
-use Rattle.site.proofs.begin.Reads as reads
-use Rattle.site.proofs.begin.Lts as lts
-use Rattle.site.proofs.edits.chain_records.Reads as chain-records-reads
-use Rattle.site.proofs.edits.fill_zero.Reads as fill-zero-reads
-use Rattle.site.proofs.fields.put_word.Reads as put-word-reads
-use Rattle.site.proofs.rules.either.Reads as either-reads
 use Rattle.site.proofs.begin.Goals as goal
 
 pub returns-then-image-ne-IMAGE_LEN : goal.returns-then-image-ne-IMAGE_LEN

@@ -1,9 +1,5 @@
 use mathlib.Core.Path.{refl, sym, ◌∙◌}
 use Rattle.site.proofs.Calls.{check_yes, check_no}
-use borrow.Author.Rules.{rules}
-use Rattle.site.proofs.check.Reads as reads
-use Rattle.site.proofs.check.Lts as lts
-use Rattle.site.proofs.rules.is_image.Reads as is-image-reads
 use Rattle.site.proofs.check.Goals as goal
 
 pub returns-then-is_image : goal.returns-then-is_image

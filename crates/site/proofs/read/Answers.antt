@@ -5,14 +5,6 @@ use Rattle.site.specs.Layout.{byte}
 use Rattle.site.proofs.Valid.{valid_long}
 use Rattle.site.proofs.Calls.{check_no, read_none, meters_none, over_none, held, read_copies}
 use borrow.Author.Tests.{not-true, not-false}
-use borrow.Author.Rules.{rules}
-use Rattle.site.proofs.read.Reads as reads
-use Rattle.site.proofs.read.Lts as lts
-use Rattle.site.proofs.arrays.copy_bytes.Reads as copy-bytes-reads
-use Rattle.site.proofs.arrays.copy_words.Reads as copy-words-reads
-use Rattle.site.proofs.fields.read_word.Reads as read-word-reads
-use Rattle.site.proofs.fields.wide.Reads as wide-reads
-use Rattle.site.proofs.rules.read_image.Reads as read-image-reads
 use Rattle.site.proofs.read.Goals as goal
 
 pub returns-then-not-walk : goal.returns-then-not-walk

@@ -2,11 +2,6 @@ use Rattle.site.proofs.Calls.{remove_needs}
 use mathlib.Core.Path.{sym, ◌∙◌}
 use Rattle.site.proofs.Calls.{remove_alike, remove_absent, remove_accepts, remove_stores}
 use borrow.Author.Tests.{not-true, not-false}
-use borrow.Author.Rules.{rules}
-use Rattle.site.proofs.remove.Reads as reads
-use Rattle.site.proofs.remove.Lts as lts
-use Rattle.site.proofs.edits.delete.Reads as delete-reads
-use Rattle.site.proofs.edits.find.Reads as find-reads
 use Rattle.site.proofs.remove.Goals as goal
 
 pub returns-then-found-ne0 : goal.returns-then-found-ne0

@@ -4,18 +4,6 @@ use native.Mathlib.Nat.{suc-ne-zero}
 use Rattle.site.specs.Layout.{byte}
 use Rattle.site.proofs.Calls.{find_image, find_ends, find_none, find_held, ends_tell, ends_taken, found}
 use borrow.Author.Tests.{not-true}
-use borrow.Author.Rules.{rules}
-use Rattle.site.proofs.edits.find.Reads as reads
-use Rattle.site.proofs.edits.find.Lts as lts
-use Rattle.site.proofs.edits.bad_ends.Reads as bad-ends-reads
-use Rattle.site.proofs.edits.high_of.Reads as high-of-reads
-use Rattle.site.proofs.edits.holds_link.Reads as holds-link-reads
-use Rattle.site.proofs.edits.low_of.Reads as low-of-reads
-use Rattle.site.proofs.edits.refused.Reads as refused-reads
-use Rattle.site.proofs.edits.small.Reads as small-reads
-use Rattle.site.proofs.fields.follower.Reads as follower-reads
-use Rattle.site.proofs.fields.wide.Reads as wide-reads
-use Rattle.site.proofs.rules.read_image.Reads as read-image-reads
 use Rattle.site.proofs.edits.find.Goals as goal
 
 pub returns-then-not-walk : goal.returns-then-not-walk

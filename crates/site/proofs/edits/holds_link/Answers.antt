@@ -2,12 +2,6 @@ use Rattle.site.proofs.Chain.{named_high}
 use mathlib.Core.Path.{sym, ◌∙◌}
 use Rattle.site.proofs.Placed.{link_out}
 use Rattle.site.proofs.Turns.{holds_test}
-use borrow.Author.Rules.{rules}
-use Rattle.site.proofs.edits.holds_link.Reads as reads
-use Rattle.site.proofs.edits.holds_link.Lts as lts
-use Rattle.site.proofs.fields.read_record.Reads as read-record-reads
-use Rattle.site.proofs.rules.both.Reads as both-reads
-use Rattle.site.proofs.rules.names_record.Reads as names-record-reads
 use Rattle.site.proofs.edits.holds_link.Goals as goal
 
 pub returns-then-not-names_record : goal.returns-then-not-names_record

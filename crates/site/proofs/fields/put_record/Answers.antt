@@ -2,11 +2,6 @@ use mathlib.Core.Path.{◌∙◌}
 use lib.ListN.{length-set}
 use native.Mathlib.Omega.{arith}
 use Rattle.site.proofs.Turns.{record_steps}
-use borrow.Author.Rules.{rules}
-use Rattle.site.proofs.fields.put_record.Reads as reads
-use Rattle.site.proofs.fields.put_record.Lts as lts
-use Rattle.site.proofs.fields.put_word.Reads as put-word-reads
-use Rattle.site.proofs.fields.record_at.Reads as record-at-reads
 use Rattle.site.proofs.fields.put_record.Goals as goal
 
 pub bounds-s-at-2 : goal.bounds-s-at-2

@@ -1,10 +1,4 @@
 use Rattle.site.proofs.Turns.{fields_read}
-use borrow.Author.Rules.{rules}
-use Rattle.site.proofs.fields.read_record.Reads as reads
-use Rattle.site.proofs.fields.read_record.Lts as lts
-use Rattle.site.proofs.fields.read_word.Reads as read-word-reads
-use Rattle.site.proofs.fields.record_at.Reads as record-at-reads
-use Rattle.site.proofs.fields.wide.Reads as wide-reads
 use Rattle.site.proofs.fields.read_record.Goals as goal
 
 pub returns : goal.returns

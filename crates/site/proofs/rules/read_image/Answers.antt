@@ -4,16 +4,6 @@ use Rattle.site.specs.Layout.{count, byte}
 use Rattle.site.proofs.Walked.{checks_length, checks_head, checks_count}
 use Rattle.site.proofs.Valid.{valid_checks}
 use Rattle.site.proofs.Filling.{fails, image_read}
-use borrow.Author.Rules.{rules}
-use Rattle.site.proofs.rules.read_image.Reads as reads
-use Rattle.site.proofs.rules.read_image.Lts as lts
-use Rattle.site.proofs.fields.read_word.Reads as read-word-reads
-use Rattle.site.proofs.fields.wide.Reads as wide-reads
-use Rattle.site.proofs.rules.both.Reads as both-reads
-use Rattle.site.proofs.rules.frees_ok.Reads as frees-ok-reads
-use Rattle.site.proofs.rules.head_ok.Reads as head-ok-reads
-use Rattle.site.proofs.rules.no_image.Reads as no-image-reads
-use Rattle.site.proofs.rules.walk_links.Reads as walk-links-reads
 use Rattle.site.proofs.rules.read_image.Goals as goal
 
 pub returns-then-s-ne-IMAGE_LEN : goal.returns-then-s-ne-IMAGE_LEN
