@@ -231,4 +231,4 @@ module _ (s s' : List ℕ) (a b r u v w q p y : ℕ) (st : Stored s s' a b r u v
 -- a record written with zeros is free
 pub free_written : (s s' : List ℕ) (a b r q p y : ℕ) → Stored s s' a b r 0 0 0 q p y → 1 ≤ r → pad_zero s r ≡ true → free_ok s' r ≡ true
 unfolding free_ok pad_zero free_of link_at every
-free_written s s' a b r q p y st lo e = ap₂ free_of st.link_new (st.pad_same r lo) ∙ and_both (eqb (pad s r) 0) true e refl
+free_written s _ a b r q p y st lo e = ap₂ free_of st.link_new (st.pad_same r lo) ∙ and_both (eqb (pad s r) 0) true e refl

@@ -1,13 +1,9 @@
 use mathlib.Core.Path.{refl, sym, ◌∙◌}
 use Rattle.site.proofs.Calls.{check_yes, check_no}
-use borrow.Author.Rules.{rules}
-use Rattle.site.proofs.check.Reads as reads
-use Rattle.site.proofs.check.Lts as lts
-use Rattle.site.proofs.rules.is_image.Reads as is-image-reads
 use Rattle.site.proofs.check.Goals as goal
 
 pub returns-then-is_image : goal.returns-then-is_image
-returns-then-is_image c = (check_yes _ (sym c.is_image.ensures ∙ c.if-is_image.true), refl)
+returns-then-is_image c = record { value = check_yes _ (sym c.is_image.ensures ∙ c.if-is_image.true); image_value = refl }
 
 pub returns-else-is_image : goal.returns-else-is_image
-returns-else-is_image c = (check_no _ (sym c.is_image.ensures ∙ c.if-is_image.false), refl)
+returns-else-is_image c = record { value = check_no _ (sym c.is_image.ensures ∙ c.if-is_image.false); image_value = refl }

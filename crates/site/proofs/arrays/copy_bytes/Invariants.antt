@@ -1,11 +1,7 @@
 use Prim.Native.Nat.{◌-◌}
-use mathlib.Core.Path.{◌≡◌, refl}
+use mathlib.Core.Path.{◌≡◌}
 use lib.ListN.{take, drop}
 use Rattle.site.specs.Reading.{store_from, over}
-use Rattle.site.proofs.Filling.{copy_turn, copy_end}
-use borrow.Author.Rules.{rules}
-use Rattle.site.proofs.arrays.copy_bytes.Reads as reads
-use Rattle.site.proofs.arrays.copy_bytes.Lts as lts
 use Rattle.site.proofs.arrays.copy_bytes.Given as goal
 
 abbrev pub invariant-loop-i : goal.invariant-loop-i

@@ -1,11 +1,6 @@
-use Prim.Native.Nat.{◌-◌}
-use mathlib.Core.Path.{◌≡◌, refl}
-use lib.ListN.{take, drop}
-use Rattle.site.specs.Reading.{store_from, over}
+use mathlib.Core.Path.{refl}
+use Rattle.site.specs.Reading.{over}
 use Rattle.site.proofs.Filling.{copy_turn, copy_end}
-use borrow.Author.Rules.{rules}
-use Rattle.site.proofs.arrays.copy_words.Reads as reads
-use Rattle.site.proofs.arrays.copy_words.Lts as lts
 use Rattle.site.proofs.arrays.copy_words.Goals as goal
 
 pub loop-i-init : goal.loop-i-init

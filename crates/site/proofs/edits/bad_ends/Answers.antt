@@ -1,8 +1,4 @@
 use Rattle.site.proofs.Turns.{ends_test}
-use borrow.Author.Rules.{rules}
-use Rattle.site.proofs.edits.bad_ends.Reads as reads
-use Rattle.site.proofs.edits.bad_ends.Lts as lts
-use Rattle.site.proofs.rules.either.Reads as either-reads
 use Rattle.site.proofs.edits.bad_ends.Goals as goal
 
 pub returns : goal.returns

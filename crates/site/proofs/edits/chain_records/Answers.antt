@@ -1,15 +1,7 @@
-use Prim.Native.Nat.{◌-◌, ◌≤◌}
 use mathlib.Core.Path.{◌≡◌, refl, sym, ◌∙◌}
-use lib.ListN.{length}
 use native.Mathlib.Omega.{arith}
-use Rattle.site.specs.Layout.{SIZE}
 use Rattle.site.specs.Edits.{chained}
 use Rattle.site.proofs.Turns.{chained_turn}
-use borrow.Author.Rules.{rules}
-use Rattle.site.proofs.edits.chain_records.Reads as reads
-use Rattle.site.proofs.edits.chain_records.Lts as lts
-use Rattle.site.proofs.fields.put_word.Reads as put-word-reads
-use Rattle.site.proofs.fields.slot_of.Reads as slot-of-reads
 use Rattle.site.proofs.edits.chain_records.Goals as goal
 
 pub loop-k-init : goal.loop-k-init
@@ -24,7 +16,7 @@ put_word-requires c = omega arith
 
 pub loop-k-preserved : goal.loop-k-preserved
 loop-k-preserved c = let l = c.loop-k in
-    (omega arith, c.put_word.auto.0 ∙ l.invariant.1, chained_turn _ _ _ _ c.slot_of.ensures.0 (rw (← l.invariant.2) c.put_word.ensures))
+    (omega arith, c.put_word.auto.s ∙ l.invariant.1, chained_turn _ _ _ _ c.slot_of.ensures.0 (rw (← l.invariant.2) c.put_word.ensures))
 
 pub shape_of-s : goal.shape_of-s
 shape_of-s c = c.loop-k.invariant.1 ∙ sym c.requires

@@ -1,13 +1,6 @@
 use native.Mathlib.Omega.{arith}
 use Rattle.site.specs.Layout.{count}
 use Rattle.site.proofs.Turns.{remove_steps, at_found}
-use borrow.Author.Rules.{rules}
-use Rattle.site.proofs.edits.delete.Reads as reads
-use Rattle.site.proofs.edits.delete.Lts as lts
-use Rattle.site.proofs.edits.relink.Reads as relink-reads
-use Rattle.site.proofs.fields.follower.Reads as follower-reads
-use Rattle.site.proofs.fields.read_record.Reads as read-record-reads
-use Rattle.site.proofs.fields.read_word.Reads as read-word-reads
 use Rattle.site.proofs.edits.delete.Goals as goal
 
 pub read_record-next-requires : goal.read_record-next-requires

@@ -1,13 +1,7 @@
-use Prim.Native.Nat.{◌-◌, ◌≤◌}
-use mathlib.Core.Path.{◌≡◌, refl, ◌∙◌}
-use mathlib.Core.List.{◌++◌}
-use lib.ListN.{length, drop, length-set}
+use mathlib.Core.Path.{refl, ◌∙◌}
+use lib.ListN.{length-set}
 use native.Mathlib.Omega.{arith}
-use Rattle.site.specs.Edits.{zeros}
 use Rattle.site.proofs.Turns.{zeros_start, zeros_turn, zeros_end}
-use borrow.Author.Rules.{rules}
-use Rattle.site.proofs.edits.fill_zero.Reads as reads
-use Rattle.site.proofs.edits.fill_zero.Lts as lts
 use Rattle.site.proofs.edits.fill_zero.Goals as goal
 
 pub loop-i-init : goal.loop-i-init

@@ -1,13 +1,8 @@
 use Prim.Native.Nat.{◌-◌, ◌≤◌}
-use mathlib.Core.Path.{◌≡◌, refl, ◌∙◌}
+use mathlib.Core.Path.{◌≡◌}
 use mathlib.Core.List.{◌++◌}
-use lib.ListN.{length, drop, length-set}
-use native.Mathlib.Omega.{arith}
+use lib.ListN.{length, drop}
 use Rattle.site.specs.Edits.{zeros}
-use Rattle.site.proofs.Turns.{zeros_start, zeros_turn, zeros_end}
-use borrow.Author.Rules.{rules}
-use Rattle.site.proofs.edits.fill_zero.Reads as reads
-use Rattle.site.proofs.edits.fill_zero.Lts as lts
 use Rattle.site.proofs.edits.fill_zero.Given as goal
 
 abbrev pub invariant-loop-i : goal.invariant-loop-i

@@ -1,42 +1,30 @@
 use mathlib.Core.Path.{sym, ◌∙◌}
 use native.Mathlib.Omega.{arith}
 use native.Mathlib.Nat.{suc-ne-zero}
-use borrow.Author.Tests.{not-true}
 use Rattle.site.specs.Layout.{byte}
 use Rattle.site.proofs.Calls.{find_image, find_ends, find_none, find_held, ends_tell, ends_taken, found}
-use borrow.Author.Rules.{rules}
-use Rattle.site.proofs.edits.find.Reads as reads
-use Rattle.site.proofs.edits.find.Lts as lts
-use Rattle.site.proofs.edits.bad_ends.Reads as bad-ends-reads
-use Rattle.site.proofs.edits.high_of.Reads as high-of-reads
-use Rattle.site.proofs.edits.holds_link.Reads as holds-link-reads
-use Rattle.site.proofs.edits.low_of.Reads as low-of-reads
-use Rattle.site.proofs.edits.refused.Reads as refused-reads
-use Rattle.site.proofs.edits.small.Reads as small-reads
-use Rattle.site.proofs.fields.follower.Reads as follower-reads
-use Rattle.site.proofs.fields.wide.Reads as wide-reads
-use Rattle.site.proofs.rules.read_image.Reads as read-image-reads
+use borrow.Author.Tests.{not-true}
 use Rattle.site.proofs.edits.find.Goals as goal
 
 pub returns-then-not-walk : goal.returns-then-not-walk
-returns-then-not-walk c = (c.refused.ensures ∙ find_image _ _ _ (sym c.read_image-walk.ensures.ok_value ∙ not-true _ c.if-not-walk.true), λ z. absurd (suc-ne-zero 0 (sym c.refused.ensures ∙ z)))
+returns-then-not-walk c = record { refusal_value = c.refused.ensures ∙ find_image _ _ _ (sym c.read_image-walk.ensures.ok_value ∙ not-true _ c.if-not-walk.true); u_value = λ z. absurd (suc-ne-zero 0 (sym c.refused.ensures ∙ z)) }
 
 pub bounds-image-0 : goal.bounds-image-0
-bounds-image-0 c = omega (arith, (find_held _ _ _ _ c.read_image-walk.ensures c.if-not-walk.false).1)
+bounds-image-0 c = omega (arith, (find_held _ _ _ _ (c.read_image-walk.ensures.ok_value, c.read_image-walk.ensures.us_after) c.if-not-walk.false).1)
 
 pub returns-then-bad_ends : goal.returns-then-bad_ends
 unfolding byte
-returns-then-bad_ends c = (c.refused-then-bad_ends.ensures ∙ find_ends _ _ _ (find_held _ _ _ _ c.read_image-walk.ensures c.if-not-walk.false).0 (ends_tell _ _ _ c.wide.ensures.0 c.bad_ends.ensures c.if-bad_ends.true), λ z. absurd (suc-ne-zero 1 (sym c.refused-then-bad_ends.ensures ∙ z)))
+returns-then-bad_ends c = record { refusal_value = c.refused-then-bad_ends.ensures ∙ find_ends _ _ _ (find_held _ _ _ _ (c.read_image-walk.ensures.ok_value, c.read_image-walk.ensures.us_after) c.if-not-walk.false).0 (ends_tell _ _ _ c.wide.ensures.0 c.bad_ends.ensures c.if-bad_ends.true); u_value = λ z. absurd (suc-ne-zero 1 (sym c.refused-then-bad_ends.ensures ∙ z)) }
 
 pub follower-q-requires : goal.follower-q-requires
-follower-q-requires c = let h = find_held _ _ _ _ c.read_image-walk.ensures c.if-not-walk.false in (h.1, h.3)
+follower-q-requires c = let h = find_held _ _ _ _ (c.read_image-walk.ensures.ok_value, c.read_image-walk.ensures.us_after) c.if-not-walk.false in (h.1, h.3)
 
 pub holds_link-requires : goal.holds_link-requires
-holds_link-requires c = (find_held _ _ _ _ c.read_image-walk.ensures c.if-not-walk.false).1
+holds_link-requires c = (find_held _ _ _ _ (c.read_image-walk.ensures.ok_value, c.read_image-walk.ensures.us_after) c.if-not-walk.false).1
 
 pub returns : goal.returns
 unfolding byte
-returns c = let h = find_held _ _ _ _ c.read_image-walk.ensures c.if-not-walk.false in
+returns c = let h = find_held _ _ _ _ (c.read_image-walk.ensures.ok_value, c.read_image-walk.ensures.us_after) c.if-not-walk.false in
     let b = ends_tell _ _ _ c.wide.ensures.0 c.bad_ends.ensures c.if-bad_ends.false in
     let e = ends_taken _ _ _ h.0 b c.low_of.ensures c.small-a.ensures.1 c.high_of.ensures c.small-b.ensures.1 in
-    (find_none _ _ _ h.0 b, λ z. found _ _ _ _ _ _ _ h.0 e.0 e.1 h.2 c.follower-q.ensures.0 c.holds_link.ensures)
+    record { refusal_value = find_none _ _ _ h.0 b; u_value = λ z. found _ _ _ _ _ _ _ h.0 e.0 e.1 h.2 c.follower-q.ensures.0 c.holds_link.ensures }

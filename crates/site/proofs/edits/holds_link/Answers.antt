@@ -1,21 +1,14 @@
 use Rattle.site.proofs.Chain.{named_high}
 use mathlib.Core.Path.{sym, ◌∙◌}
-use borrow.Author.Tests.{not-true, not-false}
 use Rattle.site.proofs.Placed.{link_out}
 use Rattle.site.proofs.Turns.{holds_test}
-use borrow.Author.Rules.{rules}
-use Rattle.site.proofs.edits.holds_link.Reads as reads
-use Rattle.site.proofs.edits.holds_link.Lts as lts
-use Rattle.site.proofs.fields.read_record.Reads as read-record-reads
-use Rattle.site.proofs.rules.both.Reads as both-reads
-use Rattle.site.proofs.rules.names_record.Reads as names-record-reads
 use Rattle.site.proofs.edits.holds_link.Goals as goal
 
 pub returns-then-not-names_record : goal.returns-then-not-names_record
-returns-then-not-names_record c = sym (link_out _ _ _ _ (sym c.names_record.ensures ∙ not-true _ c.if-not-names_record.true))
+returns-then-not-names_record c = sym (link_out _ _ _ _ (sym c.names_record.ensures ∙ c.if-not-names_record.true))
 
 pub read_record-r-requires : goal.read_record-r-requires
-read_record-r-requires c = (c.requires, named_high _ (sym c.names_record.ensures ∙ not-false _ c.if-not-names_record.false))
+read_record-r-requires c = (c.requires, named_high _ (sym c.names_record.ensures ∙ c.if-not-names_record.false))
 
 pub returns : goal.returns
-returns c = holds_test _ _ _ _ _ _ (sym c.names_record.ensures ∙ not-false _ c.if-not-names_record.false) c.read_record-r.ensures.u_value.0 c.read_record-r.ensures.u_value.1 c.both.ensures
+returns c = holds_test _ _ _ _ _ _ (sym c.names_record.ensures ∙ c.if-not-names_record.false) c.read_record-r.ensures.u_value.0 c.read_record-r.ensures.u_value.1 c.both.ensures

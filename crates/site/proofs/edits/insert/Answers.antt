@@ -1,13 +1,6 @@
 use native.Mathlib.Omega.{arith}
 use Rattle.site.specs.Layout.{first_free, count}
 use Rattle.site.proofs.Turns.{add_steps}
-use borrow.Author.Rules.{rules}
-use Rattle.site.proofs.edits.insert.Reads as reads
-use Rattle.site.proofs.edits.insert.Lts as lts
-use Rattle.site.proofs.edits.relink.Reads as relink-reads
-use Rattle.site.proofs.fields.follower.Reads as follower-reads
-use Rattle.site.proofs.fields.read_record.Reads as read-record-reads
-use Rattle.site.proofs.fields.read_word.Reads as read-word-reads
 use Rattle.site.proofs.edits.insert.Goals as goal
 
 pub read_record-free-requires : goal.read_record-free-requires

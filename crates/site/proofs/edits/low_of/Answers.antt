@@ -1,7 +1,5 @@
 use Rattle.links.specs.Links.{low}
 use borrow.Author.Tests.{lt-ltb, le-ltb}
-use Rattle.site.proofs.edits.low_of.Reads as reads
-use Rattle.site.proofs.edits.low_of.Lts as lts
 use Rattle.site.proofs.edits.low_of.Goals as goal
 
 pub returns-then-a-b : goal.returns-then-a-b

@@ -1,10 +1,4 @@
 use Rattle.site.proofs.Turns.{relink_steps}
-use borrow.Author.Rules.{rules}
-use Rattle.site.proofs.edits.relink.Reads as reads
-use Rattle.site.proofs.edits.relink.Lts as lts
-use Rattle.site.proofs.fields.put_record.Reads as put-record-reads
-use Rattle.site.proofs.fields.put_word.Reads as put-word-reads
-use Rattle.site.proofs.fields.slot_of.Reads as slot-of-reads
 use Rattle.site.proofs.edits.relink.Goals as goal
 
 pub returns : goal.returns

@@ -1,9 +1,4 @@
 use Rattle.site.proofs.Turns.{after_read}
-use borrow.Author.Rules.{rules}
-use Rattle.site.proofs.fields.follower.Reads as reads
-use Rattle.site.proofs.fields.follower.Lts as lts
-use Rattle.site.proofs.fields.read_word.Reads as read-word-reads
-use Rattle.site.proofs.fields.slot_of.Reads as slot-of-reads
 use Rattle.site.proofs.fields.follower.Goals as goal
 
 pub returns : goal.returns

@@ -2,10 +2,6 @@ use Prim.Native.Nat.{ℕ, ◌+◌, ◌*◌}
 use mathlib.Core.Path.{ap₂}
 use Rattle.site.specs.Layout.{word, byte}
 use native.Mathlib.Omega.{arith}
-use borrow.Author.Rules.{rules}
-use Rattle.site.proofs.fields.read_word.Reads as reads
-use Rattle.site.proofs.fields.read_word.Lts as lts
-use Rattle.site.proofs.fields.wide.Reads as wide-reads
 use Rattle.site.proofs.fields.read_word.Goals as goal
 
 pub overflow_mul-result : goal.overflow_mul-result

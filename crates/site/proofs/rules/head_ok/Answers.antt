@@ -1,12 +1,6 @@
 use Rattle.site.specs.Layout.{byte}
 use Rattle.site.proofs.Turns.{head_test}
 use native.Mathlib.Omega.{arith}
-use borrow.Author.Rules.{rules}
-use Rattle.site.proofs.rules.head_ok.Reads as reads
-use Rattle.site.proofs.rules.head_ok.Lts as lts
-use Rattle.site.proofs.fields.wide.Reads as wide-reads
-use Rattle.site.proofs.rules.both.Reads as both-reads
-use Rattle.site.proofs.rules.zero_bytes.Reads as zero-bytes-reads
 use Rattle.site.proofs.rules.head_ok.Goals as goal
 
 pub bounds-s-1 : goal.bounds-s-1

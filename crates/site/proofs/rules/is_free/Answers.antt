@@ -1,10 +1,6 @@
 use mathlib.Core.Path.{ap, ◌∙◌}
 use mathlib.Core.Bool.{◌&&◌}
 use lib.Dec.{eqb}
-use borrow.Author.Rules.{rules}
-use Rattle.site.proofs.rules.is_free.Reads as reads
-use Rattle.site.proofs.rules.is_free.Lts as lts
-use Rattle.site.proofs.rules.both.Reads as both-reads
 use Rattle.site.proofs.rules.is_free.Goals as goal
 
 pub returns : goal.returns

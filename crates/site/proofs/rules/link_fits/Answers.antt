@@ -1,9 +1,4 @@
 use Rattle.site.proofs.Turns.{fits_test}
-use borrow.Author.Rules.{rules}
-use Rattle.site.proofs.rules.link_fits.Reads as reads
-use Rattle.site.proofs.rules.link_fits.Lts as lts
-use Rattle.site.proofs.rules.both.Reads as both-reads
-use Rattle.site.proofs.rules.key_of.Reads as key-of-reads
 use Rattle.site.proofs.rules.link_fits.Goals as goal
 
 pub returns : goal.returns

@@ -1,32 +1,24 @@
 use mathlib.Core.Path.{sym, ◌∙◌}
 use native.Mathlib.Omega.{arith}
-use borrow.Author.Tests.{not-true, not-false}
 use Rattle.site.specs.Layout.{count, byte}
 use Rattle.site.proofs.Walked.{checks_length, checks_head, checks_count}
 use Rattle.site.proofs.Valid.{valid_checks}
 use Rattle.site.proofs.Filling.{fails, image_read}
-use borrow.Author.Rules.{rules}
-use Rattle.site.proofs.rules.read_image.Reads as reads
-use Rattle.site.proofs.rules.read_image.Lts as lts
-use Rattle.site.proofs.fields.read_word.Reads as read-word-reads
-use Rattle.site.proofs.fields.wide.Reads as wide-reads
-use Rattle.site.proofs.rules.both.Reads as both-reads
-use Rattle.site.proofs.rules.frees_ok.Reads as frees-ok-reads
-use Rattle.site.proofs.rules.head_ok.Reads as head-ok-reads
-use Rattle.site.proofs.rules.no_image.Reads as no-image-reads
-use Rattle.site.proofs.rules.walk_links.Reads as walk-links-reads
 use Rattle.site.proofs.rules.read_image.Goals as goal
 
 pub returns-then-s-ne-IMAGE_LEN : goal.returns-then-s-ne-IMAGE_LEN
-returns-then-s-ne-IMAGE_LEN c = fails c.no_image.ensures (sym (valid_checks _) ∙ checks_length _ c.if-s-ne-IMAGE_LEN.true)
+returns-then-s-ne-IMAGE_LEN c = let e = sym (valid_checks _) ∙ checks_length _ c.if-s-ne-IMAGE_LEN.true in
+    record { ok_value = c.no_image.ensures ∙ sym e; us_after = (fails c.no_image.ensures e).1 }
 
 pub returns-then-not-head_ok : goal.returns-then-not-head_ok
-returns-then-not-head_ok c = fails c.no_image-then-not-head_ok.ensures (sym (valid_checks _) ∙ checks_head _ c.if-s-ne-IMAGE_LEN.false (sym c.head_ok.ensures ∙ not-true _ c.if-not-head_ok.true))
+returns-then-not-head_ok c = let e = sym (valid_checks _) ∙ checks_head _ c.if-s-ne-IMAGE_LEN.false (sym c.head_ok.ensures ∙ c.if-not-head_ok.true) in
+    record { ok_value = c.no_image-then-not-head_ok.ensures ∙ sym e; us_after = (fails c.no_image-then-not-head_ok.ensures e).1 }
 
 pub returns-then-count-gt-RECORDS : goal.returns-then-count-gt-RECORDS
 unfolding count
-returns-then-count-gt-RECORDS c = fails c.no_image-then-count-gt-RECORDS.ensures (sym (valid_checks _) ∙ checks_count _ c.if-s-ne-IMAGE_LEN.false (sym c.head_ok.ensures ∙ not-false _ c.if-not-head_ok.false) (omega arith))
+returns-then-count-gt-RECORDS c = let e = sym (valid_checks _) ∙ checks_count c.args.s.now c.if-s-ne-IMAGE_LEN.false (sym c.head_ok.ensures ∙ c.if-not-head_ok.false) (omega arith) in
+    record { ok_value = c.no_image-then-count-gt-RECORDS.ensures ∙ sym e; us_after = (fails c.no_image-then-count-gt-RECORDS.ensures e).1 }
 
 pub returns : goal.returns
 unfolding byte
-returns c = image_read _ _ _ _ _ _ _ _ _ _ _ _ c.if-s-ne-IMAGE_LEN.false (sym c.head_ok.ensures ∙ not-false _ c.if-not-head_ok.false) c.read_word-count.ensures.0 c.if-count-gt-RECORDS.false c.wide-meters.ensures.0 c.walk_links-walk.ensures c.frees_ok.ensures c.both.ensures
+returns c = let w = image_read _ _ _ _ _ _ _ _ _ _ _ _ c.if-s-ne-IMAGE_LEN.false (sym c.head_ok.ensures ∙ c.if-not-head_ok.false) c.read_word-count.ensures.0 c.if-count-gt-RECORDS.false c.wide-meters.ensures.0 (c.walk_links-walk.ensures.ok_value, c.walk_links-walk.ensures.us_after) c.frees_ok.ensures c.both.ensures in record { ok_value = w.0; us_after = w.1 }

@@ -1,14 +1,7 @@
-use borrow.Author.Rules.{rules}
 use Rattle.site.specs.Layout.{byte}
 use Rattle.site.proofs.Turns.{zero_bad, zero_on, zero_end}
-use Prim.Native.Nat.{◌+◌, ◌≤◌}
-use mathlib.Core.Path.{◌≡◌, refl, sym, ◌∙◌}
-use lib.ListN.{length}
+use mathlib.Core.Path.{refl, sym, ◌∙◌}
 use native.Mathlib.Omega.{arith}
-use Rattle.lists.specs.Tests.{all, from}
-use Rattle.site.specs.Image.{zero_at}
-use Rattle.site.proofs.rules.zero_bytes.Reads as reads
-use Rattle.site.proofs.rules.zero_bytes.Lts as lts
 use Rattle.site.proofs.rules.zero_bytes.Goals as goal
 
 pub loop-left-init : goal.loop-left-init

@@ -1,14 +1,8 @@
-use borrow.Author.Rules.{rules}
-use Rattle.site.specs.Layout.{byte}
-use Rattle.site.proofs.Turns.{zero_bad, zero_on, zero_end}
 use Prim.Native.Nat.{◌+◌, ◌≤◌}
-use mathlib.Core.Path.{◌≡◌, refl, sym, ◌∙◌}
+use mathlib.Core.Path.{◌≡◌}
 use lib.ListN.{length}
-use native.Mathlib.Omega.{arith}
 use Rattle.lists.specs.Tests.{all, from}
 use Rattle.site.specs.Image.{zero_at}
-use Rattle.site.proofs.rules.zero_bytes.Reads as reads
-use Rattle.site.proofs.rules.zero_bytes.Lts as lts
 use Rattle.site.proofs.rules.zero_bytes.Given as goal
 
 abbrev pub invariant-loop-left : goal.invariant-loop-left
