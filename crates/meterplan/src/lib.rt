@@ -85,7 +85,7 @@ fn decoded_of(answer: Decoded) -> MeterplanDecoded
 // The number of bits.
 #[unsafe(no_mangle)]
 pub extern "C" fn meterplan_bits(image: &[u8], ask: Ask) -> MeterplanNumber
-    ensures lent { image.now ≡ image.now }
+    ensures lent { image.exit.now ≡ image.entry.now }
     ensures number { NumberIs result.refusal result.value (accept_number_in image.now ask) (pos (instance_in image.now ask).bits) }
 {
     number_of(plans::bit_count(image, ask))
@@ -94,7 +94,7 @@ pub extern "C" fn meterplan_bits(image: &[u8], ask: Ask) -> MeterplanNumber
 // The penalty A.
 #[unsafe(no_mangle)]
 pub extern "C" fn meterplan_penalty(image: &[u8], ask: Ask) -> MeterplanNumber
-    ensures lent { image.now ≡ image.now }
+    ensures lent { image.exit.now ≡ image.entry.now }
     ensures number { NumberIs result.refusal result.value (accept_number_in image.now ask) (pos (instance_in image.now ask).penalty) }
 {
     number_of(plans::penalty(image, ask))
@@ -103,7 +103,7 @@ pub extern "C" fn meterplan_penalty(image: &[u8], ask: Ask) -> MeterplanNumber
 // The constant of the table.
 #[unsafe(no_mangle)]
 pub extern "C" fn meterplan_constant(image: &[u8], ask: Ask) -> MeterplanNumber
-    ensures lent { image.now ≡ image.now }
+    ensures lent { image.exit.now ≡ image.entry.now }
     ensures number { NumberIs result.refusal result.value (accept_number_in image.now ask) (constant_of (instance_in image.now ask).formula) }
 {
     number_of(plans::constant(image, ask))
@@ -112,7 +112,7 @@ pub extern "C" fn meterplan_constant(image: &[u8], ask: Ask) -> MeterplanNumber
 // Row i in front of the lent slice: bits - i numbers; the rest is unaltered.
 #[unsafe(no_mangle)]
 pub extern "C" fn meterplan_row(image: &[u8], ask: Ask, i: u64, out: &mut [i64]) -> u64
-    ensures lent { image.now ≡ image.now }
+    ensures lent { image.exit.now ≡ image.entry.now }
     ensures number { result ≡ row_number_in image.now ask i (length out.old) }
     ensures row { out.new ≡ row_after_in image.now ask i out.old }
 {
@@ -122,7 +122,7 @@ pub extern "C" fn meterplan_row(image: &[u8], ask: Ask, i: u64, out: &mut [i64])
 // The energy of an assignment.
 #[unsafe(no_mangle)]
 pub extern "C" fn meterplan_energy(image: &[u8], ask: Ask, bits: &[u8]) -> MeterplanNumber
-    ensures lent { (image.now ≡ image.now) × (bits.now ≡ bits.now) }
+    ensures lent { (image.exit.now ≡ image.entry.now) × (bits.exit.now ≡ bits.entry.now) }
     ensures number { NumberIs result.refusal result.value (energy_number_in image.now ask bits.now) (energy_of (instance_in image.now ask) bits.now) }
 {
     number_of(plans::energy(image, ask, bits))
@@ -131,7 +131,7 @@ pub extern "C" fn meterplan_energy(image: &[u8], ask: Ask, bits: &[u8]) -> Meter
 // The code of a plan, in the lent bits.
 #[unsafe(no_mangle)]
 pub extern "C" fn meterplan_code(image: &[u8], ask: Ask, plan: &[u8], bits: &mut [u8]) -> u64
-    ensures lent { (image.now ≡ image.now) × (plan.now ≡ plan.now) }
+    ensures lent { (image.exit.now ≡ image.entry.now) × (plan.exit.now ≡ plan.entry.now) }
     ensures number { result ≡ code_number_in image.now ask plan.now bits.old }
     ensures bits { bits.new ≡ code_after_in image.now ask plan.now bits.old }
 {
@@ -146,7 +146,7 @@ pub extern "C" fn meterplan_decode(
     bits: &[u8],
     plan: &mut [u8],
 ) -> MeterplanDecoded
-    ensures lent { (image.now ≡ image.now) × (bits.now ≡ bits.now) }
+    ensures lent { (image.exit.now ≡ image.entry.now) × (bits.exit.now ≡ bits.entry.now) }
     ensures plan { plan.new ≡ decode_after_in image.now ask bits.now plan.old }
     ensures number { DecodedIs result.refusal result.weight result.repaired (decode_number_in image.now ask bits.now plan.old) ((instance_in image.now ask).weight ((instance_in image.now ask).decoded bits.now)) ((instance_in image.now ask).repaired bits.now) }
 {

@@ -92,7 +92,7 @@ pub fn remove(image: &mut [u8], u: u64, v: u64) -> u64
 
 // The number of bits. Refused by 1, 7, 18 or 8.
 pub fn bit_count(image: &[u8], ask: Ask) -> Number
-    ensures lent { image.now ≡ image.now }
+    ensures lent { image.exit.now ≡ image.entry.now }
     ensures answer { result ≡ bits_answer_in image.now ask }
     ensures number { NumberSays result (accept_number_in image.now ask) (pos (instance_in image.now ask).bits) }
 {
@@ -105,7 +105,7 @@ pub fn bit_count(image: &[u8], ask: Ask) -> Number
 
 // The penalty A, the margin included. Refused by 1, 7, 18 or 8.
 pub fn penalty(image: &[u8], ask: Ask) -> Number
-    ensures lent { image.now ≡ image.now }
+    ensures lent { image.exit.now ≡ image.entry.now }
     ensures answer { result ≡ penalty_answer_in image.now ask }
     ensures number { NumberSays result (accept_number_in image.now ask) (pos (instance_in image.now ask).penalty) }
 {
@@ -118,7 +118,7 @@ pub fn penalty(image: &[u8], ask: Ask) -> Number
 
 // The constant of the table. Refused by 1, 7, 18 or 8.
 pub fn constant(image: &[u8], ask: Ask) -> Number
-    ensures lent { image.now ≡ image.now }
+    ensures lent { image.exit.now ≡ image.entry.now }
     ensures answer { result ≡ constant_answer_in image.now ask }
     ensures number { NumberSays result (accept_number_in image.now ask) (constant_of (instance_in image.now ask).formula) }
 {
@@ -168,7 +168,7 @@ fn fill(image: &[u8], ask: Ask, i: u64, out: &mut [i64]) -> Filled
 // Row i of the table as the front part of the lent slice, empty only on refusal; `row_refusal` gives the refusal's number. A slice of which a part is returned is spent: the contract has the part and where it begins, and cannot
 // have the rest. So there is nothing here but `fill`, which states the whole slice, and the part.
 pub fn row<'a>(image: &[u8], ask: Ask, i: u64, out: &'a mut [i64]) -> &'a mut [i64]
-    ensures lent { image.now ≡ image.now }
+    ensures lent { image.exit.now ≡ image.entry.now }
     ensures part { result.now ≡ row_part_in image.now ask i (length out.old) }
     ensures place { result.ref_ptr ≡ out.entry.ref_ptr }
 {
@@ -178,7 +178,7 @@ pub fn row<'a>(image: &[u8], ask: Ask, i: u64, out: &'a mut [i64]) -> &'a mut [i
 
 // The number with which `row` refuses the same input, or 0: 1, 7, 18, 8, 10 or 9. It alters nothing.
 pub fn row_refusal(image: &[u8], ask: Ask, i: u64, out: &[i64]) -> u64
-    ensures lent { (image.now ≡ image.now) × (out.now ≡ out.now) }
+    ensures lent { (image.exit.now ≡ image.entry.now) × (out.exit.now ≡ out.entry.now) }
     ensures value { result ≡ row_number_in image.now ask i (length out.now) }
 {
     let posed = posing::problem_in(image, ask);
@@ -190,7 +190,7 @@ pub fn row_refusal(image: &[u8], ask: Ask, i: u64, out: &[i64]) -> u64
 
 // Row i in front of the lent slice, the rest of it unaltered; returns 0 or the refusal's number.
 pub fn fill_row(image: &[u8], ask: Ask, i: u64, out: &mut [i64]) -> u64
-    ensures lent { image.now ≡ image.now }
+    ensures lent { image.exit.now ≡ image.entry.now }
     ensures number { result ≡ row_number_in image.now ask i (length out.old) }
     ensures row { out.new ≡ row_after_in image.now ask i out.old }
 {
@@ -200,7 +200,7 @@ pub fn fill_row(image: &[u8], ask: Ask, i: u64, out: &mut [i64]) -> u64
 
 // The energy of an assignment. Refused by 1, 7, 18, 8, 9 or 11.
 pub fn energy(image: &[u8], ask: Ask, bits: &[u8]) -> Number
-    ensures lent { (image.now ≡ image.now) × (bits.now ≡ bits.now) }
+    ensures lent { (image.exit.now ≡ image.entry.now) × (bits.exit.now ≡ bits.entry.now) }
     ensures answer { result ≡ energy_answer_in image.now ask bits.now }
     ensures number { NumberSays result (energy_number_in image.now ask bits.now) (energy_of (instance_in image.now ask) bits.now) }
 {
@@ -226,7 +226,7 @@ pub fn energy(image: &[u8], ask: Ask, bits: &[u8]) -> Number
 
 // The code of a plan, in the lent bits. Returns 0, 1, 7, 18, 8, 9 or 12.
 pub fn encode(image: &[u8], ask: Ask, plan: &[u8], bits: &mut [u8]) -> u64
-    ensures lent { (image.now ≡ image.now) × (plan.now ≡ plan.now) }
+    ensures lent { (image.exit.now ≡ image.entry.now) × (plan.exit.now ≡ plan.entry.now) }
     ensures number { result ≡ code_number_in image.now ask plan.now bits.old }
     ensures bits { bits.new ≡ code_after_in image.now ask plan.now bits.old }
 {
@@ -255,7 +255,7 @@ pub fn encode(image: &[u8], ask: Ask, plan: &[u8], bits: &mut [u8]) -> u64
 
 // The plan of an assignment, in the lent plan, its weight and how many meters were repaired. Refused by 1, 7, 18, 8, 9, 11 or 12.
 pub fn decode(image: &[u8], ask: Ask, bits: &[u8], plan: &mut [u8]) -> Decoded
-    ensures lent { (image.now ≡ image.now) × (bits.now ≡ bits.now) }
+    ensures lent { (image.exit.now ≡ image.entry.now) × (bits.exit.now ≡ bits.entry.now) }
     ensures answer { result ≡ decode_answer_in image.now ask bits.now plan.old }
     ensures plan { plan.new ≡ decode_after_in image.now ask bits.now plan.old }
     ensures number { DecodedSays result (decode_number_in image.now ask bits.now plan.old) ((instance_in image.now ask).weight ((instance_in image.now ask).decoded bits.now)) ((instance_in image.now ask).repaired bits.now) }

@@ -15,7 +15,7 @@ ghost use Rattle.site.specs.Reading.{read_meters, read_links, over};
 // Tells whether the bytes are a site image: 0, or 1 where they are none.
 pub fn check(image: &[u8]) -> u64
     ensures value { result ≡ check_refusal image.now }
-    ensures image_value { image.now ≡ image.now }
+    ensures image_value { image.exit.now ≡ image.entry.now }
 {
     if rules::is_image(image) { 0 } else { 1 }
 }
@@ -91,7 +91,7 @@ pub fn read(image: &[u8], us: &mut [u8; 256], vs: &mut [u8; 256], ws: &mut [u16;
     ensures us_after { us.new ≡ over (ends_u (read_links image.now)) us.old }
     ensures vs_after { vs.new ≡ over (ends_v (read_links image.now)) vs.old }
     ensures ws_after { ws.new ≡ over (weights (read_links image.now)) ws.old }
-    ensures image_value { image.now ≡ image.now }
+    ensures image_value { image.exit.now ≡ image.entry.now }
 {
     let mut front_us = [0u8; 256];
     let mut front_vs = [0u8; 256];
