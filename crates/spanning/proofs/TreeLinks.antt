@@ -27,11 +27,11 @@ Distinct [] = Unit {0}
 Distinct (l ∷ ls) = (Linked l.u l.v ls → ⊥) × Distinct ls
 
 -- neighbours in a list have the ends of one of its links, the lower first
-linked_present : (N : ℕ) (ls : List Link) → all (link_ok N) ls ≡ true → {a b : ℕ} → a < b → Linked a b ls → present a b ls ≡ true
+linked_present : (N : ℕ) {a b : ℕ} (ls : List Link) → all (link_ok N) ls ≡ true → a < b → Linked a b ls → present a b ls ≡ true
 unfolding present any
-linked_present N _ o {a} {b} h (here {l = l} (along e f)) = rw (ends_yes a b l e f)
+linked_present N {a} {b} _ o h (here {l = l} (along e f)) = rw (ends_yes a b l e f)
 linked_present N _ o h (here {l = l} {ls = ls} (back e f)) = let k = link_of N l (all_head (link_ok N) l ls o) in absurd (omega (arith, k.ordered))
-linked_present N _ o {a} {b} h (there {l = l} {ls = ls} k) = rw (linked_present N ls (all_tail (link_ok N) l ls o) h k) (or-true (has_ends a b l))
+linked_present N {a} {b} _ o h (there {l = l} {ls = ls} k) = rw (linked_present N ls (all_tail (link_ok N) l ls o) h k) (or-true (has_ends a b l))
 
 -- in links that rise no two have the same ends
 rising_distinct : (N : ℕ) (ls : List Link) → all (link_ok N) ls ≡ true → ascending ls ≡ true → Distinct ls
@@ -61,6 +61,7 @@ sub_all q (skip {l = l} {ls = ls} s) e = sub_all q s (all_tail q l ls e)
 
 -- neighbours over some links are neighbours over all
 pub sub_linked : {T ls : List Link} {a b : ℕ} → Sub T ls → Linked a b T → Linked a b ls
+sub_linked {a = a} {b = b} end k = elim k [ ]
 sub_linked (keep s) (here j) = here j
 sub_linked (keep s) (there k) = there (sub_linked s k)
 sub_linked (skip s) k = there (sub_linked s k)

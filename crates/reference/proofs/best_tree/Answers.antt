@@ -1,4 +1,3 @@
-use Rattle.std.proofs.Common.{◌-◌, rules}
 use Rattle.reference.proofs.best_tree.Goals as goal
 
 pub loop-subset-init : goal.loop-subset-init

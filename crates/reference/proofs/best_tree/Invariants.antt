@@ -1,4 +1,4 @@
-use Rattle.std.proofs.Common.{◌-◌, rules}
+use Rattle.std.proofs.Common.{◌-◌}
 use Rattle.reference.proofs.best_tree.Given as goal
 
 abbrev pub invariant-loop-subset : goal.invariant-loop-subset

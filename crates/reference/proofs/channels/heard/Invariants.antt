@@ -1,4 +1,4 @@
-use Rattle.std.proofs.Common.{◌-◌, rules}
+use Rattle.std.proofs.Common.{◌-◌}
 use Rattle.reference.proofs.channels.heard.Given as goal
 
 abbrev pub invariant-loop-u : goal.invariant-loop-u

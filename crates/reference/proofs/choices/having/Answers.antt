@@ -1,4 +1,3 @@
-use Rattle.std.proofs.Common.{◌-◌, rules}
 use Rattle.reference.proofs.choices.having.Goals as goal
 
 pub loop-i-init : goal.loop-i-init

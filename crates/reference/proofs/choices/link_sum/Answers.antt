@@ -1,4 +1,3 @@
-use Rattle.std.proofs.Common.{◌-◌, rules}
 use Rattle.reference.proofs.choices.link_sum.Goals as goal
 
 pub loop-pair-init : goal.loop-pair-init

@@ -1,4 +1,3 @@
-use Rattle.std.proofs.Common.{◌-◌, rules}
 use Rattle.reference.proofs.choices.misses.Goals as goal
 
 pub loop-v-init : goal.loop-v-init

@@ -1,4 +1,3 @@
-use Rattle.std.proofs.Common.{◌-◌, rules}
 use Rattle.reference.proofs.groups.gaps_above.Goals as goal
 
 pub loop-j-init : goal.loop-j-init

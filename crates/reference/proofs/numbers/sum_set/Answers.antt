@@ -1,4 +1,3 @@
-use Rattle.std.proofs.Common.{◌-◌, rules}
 use Rattle.reference.proofs.numbers.sum_set.Goals as goal
 
 pub loop-j-init : goal.loop-j-init

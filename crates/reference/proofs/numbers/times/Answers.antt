@@ -1,4 +1,4 @@
-use Rattle.std.proofs.Common.{arith, rules}
+use Rattle.std.proofs.Common.{arith}
 use Rattle.reference.proofs.Products.{cut_product}
 use Rattle.reference.proofs.numbers.times.Goals as goal
 

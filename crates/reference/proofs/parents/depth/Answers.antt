@@ -1,4 +1,3 @@
-use Rattle.std.proofs.Common.{◌-◌, rules}
 use Rattle.reference.proofs.parents.depth.Goals as goal
 
 pub loop-steps-init : goal.loop-steps-init

@@ -1,4 +1,3 @@
-use Rattle.std.proofs.Common.{◌-◌, rules}
 use Rattle.reference.proofs.parents.is_plan.Goals as goal
 
 pub loop-v-init : goal.loop-v-init

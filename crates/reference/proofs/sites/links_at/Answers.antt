@@ -1,4 +1,3 @@
-use Rattle.std.proofs.Common.{◌-◌, rules}
 use Rattle.reference.proofs.sites.links_at.Goals as goal
 
 pub loop-u-init : goal.loop-u-init

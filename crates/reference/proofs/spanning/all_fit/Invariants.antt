@@ -1,4 +1,4 @@
-use Rattle.std.proofs.Common.{◌-◌, rules}
+use Rattle.std.proofs.Common.{◌-◌}
 use Rattle.reference.proofs.spanning.all_fit.Given as goal
 
 abbrev pub invariant-loop-v : goal.invariant-loop-v

@@ -1,4 +1,3 @@
-use Rattle.std.proofs.Common.{◌-◌, rules}
 use Rattle.reference.proofs.spanning.chosen.Goals as goal
 
 pub loop-pair-init : goal.loop-pair-init

@@ -1,4 +1,4 @@
-use Rattle.std.proofs.Common.{◌-◌, rules}
+use Rattle.std.proofs.Common.{◌-◌}
 use Rattle.reference.proofs.spanning.chosen.Given as goal
 
 abbrev pub invariant-loop-pair : goal.invariant-loop-pair

@@ -1,4 +1,3 @@
-use Rattle.std.proofs.Common.{◌-◌, rules}
 use Rattle.reference.proofs.spanning.power_of_two.Goals as goal
 
 pub loop-k-init : goal.loop-k-init

@@ -1,4 +1,3 @@
-use Rattle.std.proofs.Common.{◌-◌, rules}
 use Rattle.reference.proofs.spanning.reached.Goals as goal
 
 pub loop-k-init : goal.loop-k-init
