@@ -138,12 +138,12 @@ walk_on N D i tails heads r s e w = record { own = omega (arith, w.own); even = 
 -- either way
 module _ (N D A : ℕ) (us vs ws : List ℕ) (i : ℕ) (r : List ℤ) (lent : WithDepths N D us vs ws) (row : Row (2 ^ 59) N D A (length us) i r) where
   pub walk_into : Walk N D i us vs r
-  walk_into = record { own = row.own_val; even = lent.arrays.same_v; few = arrays_few N us vs ws lent.arrays; meters = lent.arrays.survey.meters_high; deep = lent.deep; inside = row.inside }
+  walk_into = record { own = row.own; even = lent.arrays.same_v; few = arrays_few N us vs ws lent.arrays; meters = lent.arrays.survey.meters_high; deep = lent.deep; inside = row.inside }
 
   pub walk_out : Walk N D i vs us r
   walk_out =
       let e = lent.arrays.same_v in
-      record { own = row.own_val; even = sym e; few = omega (arith, arrays_few N us vs ws lent.arrays); meters = lent.arrays.survey.meters_high; deep = lent.deep; inside = rw e row.inside }
+      record { own = row.own; even = sym e; few = omega (arith, arrays_few N us vs ws lent.arrays); meters = lent.arrays.survey.meters_high; deep = lent.deep; inside = rw e row.inside }
 
 -- where a depth has arcs, and where it has none
 module _ (q : ℤ) (i N D v t : ℕ) (ks : List Arc) where

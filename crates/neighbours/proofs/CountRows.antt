@@ -60,7 +60,7 @@ module _ (A N D M d i : ℕ) (r : List ℤ) (b : ℕ) (is : b ≡ arcs_end N D M
     after = omega arith
 
     within : i < arcs_end N D M + N * d
-    within = omega (arith, row.whole, row.own_val)
+    within = omega (arith, row.whole, row.own)
 
     -- what count_meter asks, and its answer m
     pub counts_short : N ≤ 48 → d ≤ 47 → b ≤ 13488 → i ≤ 2 ^ 32

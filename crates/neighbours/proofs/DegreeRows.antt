@@ -72,7 +72,7 @@ add_both (suc n) G m k i r a b c d ne h =
 -- ---- a row with room to spare
 
 row_more : (limit more N D M d A i : ℕ) (r s : List ℤ) → limit ≤ more → s ≡ r → TableRow limit N D M d A i r → TableRow more N D M d A i s
-row_more limit more N D M d A i r s h e row = rw e (record { own = row.own_val; whole = row.whole; small = λ k. omega (arith, row.small k); penalty = row.penalty })
+row_more limit more N D M d A i r s h e row = rw e (record { own = row.own; whole = row.whole; small = λ k. omega (arith, row.small k); penalty = row.penalty })
 
 -- the weights of the links have no part in the arcs at a meter
 alike : (N D : ℕ) (us vs ws xs : List ℕ) (v : ℕ) → over (arcs (links_of us vs ws)) (touching N D v) ≡ over (arcs (links_of us vs xs)) (touching N D v)
@@ -151,7 +151,7 @@ module _ (A N D d i : ℕ) (us vs ws : List ℕ) (lent : WithDepths N D us vs ws
 
           later : TableRow (3 * 2 ^ 58) N D (length us) d A i (add_terms (terms a.parent) i r)
           later = record {
-            own = omega (arith, row.own_val, add_length (terms a.parent) i r);
+            own = omega (arith, row.own, add_length (terms a.parent) i r);
             whole = omega (arith, row.whole, add_length (terms a.parent) i r);
             small = λ k. omega (arith, row.small k, added_abs (terms a.parent) i r k, small, row.penalty);
             penalty = row.penalty;
@@ -173,11 +173,11 @@ module _ (A N D d i : ℕ) (us vs ws : List ℕ) (lent : WithDepths N D us vs ws
     off = i - arcs_end N D (length us)
 
     inside : off / d < N
-    inside = count_inside N D (length us) d i after d1 (omega (arith, row.whole, row.own_val))
+    inside = count_inside N D (length us) d i after d1 (omega (arith, row.whole, row.own))
 
     -- what count_meter and count_number ask
     pub count_asks : b ≤ 13488 → (1 ≤ d) × (b ≤ i) × (i ≤ 2 ^ 32)
-    count_asks low = (d1, omega (arith, after), omega (arith, row.whole, row.own_val, counts_few N d lent.arrays.survey.meters_high d47))
+    count_asks low = (d1, omega (arith, after), omega (arith, row.whole, row.own, counts_few N d lent.arrays.survey.meters_high d47))
 
     module _ (m j : ℕ) (meter : m ≡ (i - b) / d + 1) (count : j ≡ (i - b) % d + 1) where
       meter_is : m ≡ off / d + 1

@@ -80,7 +80,7 @@ module _ (A N D d i m : ℕ) (us vs : List ℕ) (ends : Ends N us vs) (deep : D 
       omega (arith, row.whole, bits_few N D (length us) d ends.arrays.survey.meters_high deep (few_links N us vs ends) d47)
 
   pub single_ready : (i < i + length r) × Room (2 ^ 61) (single here i ∷ []) r
-  single_ready = (omega (arith, row.own_val), record { room = λ k. omega (arith, row.small k, single_norm here i, here_low) })
+  single_ready = (omega (arith, row.own), record { room = λ k. omega (arith, row.small k, single_norm here i, here_low) })
 
   module _ (s : List ℤ) (e : s ≡ add_terms (single here i ∷ []) i r) where
     first_length : length s ≡ length r
@@ -91,7 +91,7 @@ module _ (A N D d i m : ℕ) (us vs : List ℕ) (ends : Ends N us vs) (deep : D 
 
     pub numbered_ready : (1 ≤ length s) × (d ≤ 47) × (first + d ≤ i + length s) × Roomy q i s
     numbered_ready = (
-      omega (arith, first_length, row.own_val),
+      omega (arith, first_length, row.own),
       d47,
       omega (arith, first_length, start_inside),
       record { small = λ k. omega (arith, first_small k); factor = q_low; short = omega (arith, first_length, short) },

@@ -11,7 +11,7 @@ use Rattle.neighbours.proofs.DegreeParts.{Touched, touched_start, touched_ready,
 use Rattle.neighbours.proofs.degrees.add_touching.Given as goal
 
 abbrev pub invariant-loop-k : goal.invariant-loop-k
-invariant-loop-k l = Touched l.meters l.deepest l.meter l.i l.us l.vs (to_z w64 l.q) l.initial.row l.row l.k
+invariant-loop-k l = Touched l.meters l.deepest l.meter l.i l.us l.vs l.q l.initial.row l.row l.k
 
 abbrev pub decreases-loop-k : goal.decreases-loop-k
 decreases-loop-k l = length l.us - l.k

@@ -91,7 +91,7 @@ module _ {M : Type 1} {𝓤 : Ura M} (𝓛 : Logic 𝓤) where
 
   -- and any record in memory, taken back whole, is room for the local
   freed : (h : timespec) (b : ℕ) → ent 𝓤 (sem 𝓛 (part_at S.the_row full_share h b 0)) (H.room S'.mir b 0)
-  freed h b = via 𝓤 _ (part_out 𝓛 S.the_row refl full_share h b 0) (ex_e 𝓤 _ (λ v. via 𝓤 (H.at full_share S'.mir b 0 v) (fst∗ 𝓤 _ (sem 𝓛 ((S.the_row).own_val h (v ∷ [])))) (𝓛.laws.at_room S'.mir b 0 v)))
+  freed h b = via 𝓤 _ (part_out 𝓛 S.the_row refl full_share h b 0) (ex_e 𝓤 _ (λ v. via 𝓤 (H.at full_share S'.mir b 0 v) (fst∗ 𝓤 _ (sem 𝓛 ((S.the_row).own h (v ∷ [])))) (𝓛.laws.at_room S'.mir b 0 v)))
 
 module _ {M : Type 1} {𝓤 : Ura M} (𝓛 : Logic 𝓤) (mem-at : Memory → SProp 𝓤) (run : Routine → Fun 𝓤) where
   open 𝓛 use {H, A}
@@ -109,10 +109,10 @@ module _ {M : Type 1} {𝓤 : Ura M} (𝓛 : Logic 𝓤) (mem-at : Memory → SP
     left = record { ref_ptr = (c, 0); ghost_name = δ; now = nanos 0 }
 
     abbrev own-asked : Fml
-    own-asked = (ShrRef (named 0) (α ∷ []) S.the_row).own_val asked (vptr b 0 ∷ [])
+    own-asked = (ShrRef (named 0) (α ∷ []) S.the_row).own asked (vptr b 0 ∷ [])
 
     abbrev own-left : Fml
-    own-left = (MutRef (named 1) (β ∷ []) S.the_row).own_val left (vptr c 0 ∷ [])
+    own-left = (MutRef (named 1) (β ∷ []) S.the_row).own left (vptr c 0 ∷ [])
 
     -- what the callee's triple binds outside
     abbrev to-sleep : (Nanosleep 𝓛 mem-at run).Ghost
@@ -132,7 +132,7 @@ module _ {M : Type 1} {𝓤 : Ura M} (𝓛 : Logic 𝓤) (mem-at : Memory → SP
     gives : (v : Val) → ent 𝓤 ((Nanosleep 𝓛 mem-at run).post to-sleep v) (H.⇛ (ex 𝓤 (Gives v)))
     gives v =
         qed 𝓛 (raw ((Nanosleep 𝓛 mem-at run).post to-sleep v) ∷ []) ∵ updating ! $
-        use1 𝓛 (later (some (λ (r : ℤ). ((‵ (flft (α ∷ []) full_share) ⊛ (‵ (flft (β ∷ []) full_share) ⊛ ‵ ftrue)) ⊛ ‵ (i32.own_val r (v ∷ []))) ⊛ raw (ensured 𝓛 nanosleep.ended (nanosleep.clauses 𝓛 mem-at run) (α ∷ [], (β ∷ [], tt)) (asked, (left, tt)) tt r)))) (id⊢ 𝓤 _) $ await ! tt $ pick ! (λ r.
+        use1 𝓛 (later (some (λ (r : ℤ). ((‵ (flft (α ∷ []) full_share) ⊛ (‵ (flft (β ∷ []) full_share) ⊛ ‵ ftrue)) ⊛ ‵ (i32.own r (v ∷ []))) ⊛ raw (ensured 𝓛 nanosleep.ended (nanosleep.clauses 𝓛 mem-at run) (α ∷ [], (β ∷ [], tt)) (asked, (left, tt)) tt r)))) (id⊢ 𝓤 _) $ await ! tt $ pick ! (λ r.
         split ! $ move ! (1 ∷ []) $ use1 𝓛 (some (λ (ws : Unit {0} × (timespec × Unit {0})). ‵ (lasts nanosleep.ended (α ∷ [], (β ∷ [], tt)) (asked, (left, tt)) ws) ⊛ raw (fact 𝓤 (Status r)))) (id⊢ 𝓤 _) $ pick ! (λ ws.
         split ! $ fsplit ! $ drop ! $ fsplit ! $
         -- [the last value; true; the fact; the tokens and the result]
@@ -153,12 +153,12 @@ module _ {M : Type 1} {𝓤 : Ura M} (𝓛 : Logic 𝓤) (mem-at : Memory → SP
         -- `asked` is lent by `&` for α
         move ! (8 ∷ []) $ use1 𝓛 (‵ (part_at S.the_row full_share (nanos 1000000) l₁ 0)) (lies 𝓛 1000000 tt l₁) $
         lft_new ! tt (λ α. move ! (1 ∷ []) $
-        use1 𝓛 (later (some (λ (γ : GName). ‵ ((ShrRef (named 0) (α ∷ []) S.the_row).own_val (record { ref_ptr = (l₁, 0); ghost_name = γ; now = nanos 1000000 }) (vptr l₁ 0 ∷ [])) ⊛ ‵ (flent (α ∷ []) (part_at S.the_row full_share (nanos 1000000) l₁ 0)))))
+        use1 𝓛 (later (some (λ (γ : GName). ‵ ((ShrRef (named 0) (α ∷ []) S.the_row).own (record { ref_ptr = (l₁, 0); ghost_name = γ; now = nanos 1000000 }) (vptr l₁ 0 ∷ [])) ⊛ ‵ (flent (α ∷ []) (part_at S.the_row full_share (nanos 1000000) l₁ 0)))))
         (lends_shr 𝓛 S.the_row (named 0) (α ∷ []) full_share (nanos 1000000) l₁ 0) $ await ! tt $ pick ! (λ γ. split ! $
         -- `left` is lent by `&mut` for β
         move ! (9 ∷ []) $ use1 𝓛 (‵ (part_at S.the_row full_share (nanos 0) l₂ 0)) (lies 𝓛 0 tt l₂) $
         lft_new ! tt (λ β. move ! (1 ∷ []) $
-        use1 𝓛 (later (some (λ (δ : GName). ‵ ((MutRef (named 1) (β ∷ []) S.the_row).own_val (record { ref_ptr = (l₂, 0); ghost_name = δ; now = nanos 0 }) (vptr l₂ 0 ∷ [])) ⊛ ‵ (flent (β ∷ []) (Body (mem S.the_row) l₂ 0 δ)))))
+        use1 𝓛 (later (some (λ (δ : GName). ‵ ((MutRef (named 1) (β ∷ []) S.the_row).own (record { ref_ptr = (l₂, 0); ghost_name = δ; now = nanos 0 }) (vptr l₂ 0 ∷ [])) ⊛ ‵ (flent (β ∷ []) (Body (mem S.the_row) l₂ 0 δ)))))
         (lends_ref 𝓛 S.the_row (named 1) (β ∷ []) (nanos 0) l₂ 0) $ await ! tt $ pick ! (λ δ. split ! $
         -- [left's reference; its lender's part; β; asked's reference; its lender's part; α; _5; …; _4; …; room for _3; …; …; …; room for _0; …]
         move ! (5 ∷ 2 ∷ []) $ join ! $ move ! (3 ∷ 1 ∷ []) $ join ! $ move ! (1 ∷ 0 ∷ []) $
