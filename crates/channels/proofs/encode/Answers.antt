@@ -1,4 +1,3 @@
-use borrow.Author.Rules.{rules}
 use Rattle.onehot.proofs.Turns.{choices_within}
 use Rattle.channels.specs.Plans.{is_plan, code_of}
 use Rattle.channels.proofs.encode.Goals as goal

@@ -1,4 +1,3 @@
-use borrow.Author.Rules.{rules}
 use Rattle.channels.specs.Plans.{is_plan}
 use Rattle.channels.proofs.is_plan.Goals as goal
 

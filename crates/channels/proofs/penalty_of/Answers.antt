@@ -1,6 +1,5 @@
 use mathlib.Core.Path.{refl}
 use native.Mathlib.Omega.{arith}
-use borrow.Author.Rules.{rules}
 use Rattle.lists.proofs.Stores.{zero_entries}
 use Rattle.channels.proofs.Asking.{penalty_small}
 use Rattle.channels.proofs.Gathering.{penalty_is}

@@ -1,5 +1,4 @@
 use native.Mathlib.Omega.{arith}
-use borrow.Author.Rules.{rules}
 use Rattle.arcs.proofs.Slices.{arc_small}
 use Rattle.arcs.proofs.layout.arc_start.Goals as goal
 

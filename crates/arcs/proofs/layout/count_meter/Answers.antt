@@ -1,7 +1,6 @@
 use Prim.Native.Nat.{◌-◌}
 use native.Mathlib.Omega.{arith}
 use native.Mathlib.Nat.{div-le_self}
-use borrow.Author.Rules.{rules}
 use Rattle.arcs.proofs.layout.count_meter.Goals as goal
 
 pub overflow_add-result : goal.overflow_add-result

@@ -1,6 +1,5 @@
 use Prim.Native.Nat.{◌-◌}
 use native.Mathlib.Omega.{arith}
-use borrow.Author.Rules.{rules}
 use Rattle.arcs.proofs.Slices.{counts_few, count_start_is}
 use Rattle.arcs.proofs.layout.count_start.Goals as goal
 

@@ -1,5 +1,4 @@
 use native.Mathlib.Numerals.{add-one}
-use borrow.Author.Rules.{rules}
 use Rattle.arcs.proofs.layout.counts_end.Goals as goal
 
 pub returns : goal.returns

@@ -1,5 +1,4 @@
 use native.Mathlib.Omega.{arith}
-use borrow.Author.Rules.{rules}
 use Rattle.arcs.proofs.Slices.{start_is, start_small}
 use Rattle.arcs.proofs.layout.depth_start.Goals as goal
 

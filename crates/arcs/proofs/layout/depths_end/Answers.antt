@@ -1,6 +1,5 @@
 use mathlib.Core.Path.{refl}
 use native.Mathlib.Omega.{arith}
-use borrow.Author.Rules.{rules}
 use Rattle.arcs.proofs.Slices.{depths_few}
 use Rattle.arcs.proofs.layout.depths_end.Goals as goal
 

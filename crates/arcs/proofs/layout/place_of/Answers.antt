@@ -1,7 +1,6 @@
 use Prim.Native.Nat.{◌-◌, ◌/◌}
 use native.Mathlib.Omega.{arith}
 use native.Mathlib.Nat.{div-le_self}
-use borrow.Author.Rules.{rules}
 use Rattle.links.proofs.Walk.{arrays_few}
 use Rattle.arcs.proofs.Placed.{is_depth, is_behind, some_depth, link_inside, depth_inside, is_there, is_back}
 use Rattle.arcs.proofs.layout.place_of.Goals as goal

@@ -1,7 +1,6 @@
 use mathlib.Core.Path.{◌∙◌}
 use native.Mathlib.Omega.{arith}
 use mir.Facts.{to_z-of_z}
-use borrow.Author.Rules.{rules}
 use Rattle.arcs.proofs.ArcWalk.{at_room, at_yes, at_no}
 use Rattle.arcs.proofs.rows.add_arc.Goals as goal
 

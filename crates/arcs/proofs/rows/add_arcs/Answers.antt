@@ -1,10 +1,7 @@
-use Prim.Native.Nat.{◌+◌, ◌-◌, ◌*◌}
-use lib.ListN.{length}
+use Prim.Native.Nat.{◌+◌, ◌*◌}
 use native.Mathlib.Omega.{arith}
 use mir.Facts.{to_z-of_z}
-use mir.Syntax.{w64}
-use mir.Val.{to_z}
-use Rattle.arcs.proofs.ArcWalk.{Into, into_start, into_all, there_room, back_room, into_turn, bit_inside}
+use Rattle.arcs.proofs.ArcWalk.{into_start, into_all, there_room, back_room, into_turn, bit_inside}
 use Rattle.arcs.proofs.rows.add_arcs.Goals as goal
 
 pub overflow_cast-end : goal.overflow_cast-end
@@ -22,8 +19,7 @@ bounds-heads-k c = omega (arith, c.requires.0.even)
 pub add_arc-requires : goal.add_arc-requires
 add_arc-requires c =
     let w = c.requires.0 in
-    let l = c.loop-k in
-    (
+    let l = c.loop-k in (
       omega (arith, l.invariant.size, w.own),
       w.meters,
       w.deep,
@@ -46,8 +42,7 @@ bounds-tails-k c = omega (arith, c.loop-k-test.true)
 pub add_arc-requires-in-loop-k : goal.add_arc-requires-in-loop-k
 add_arc-requires-in-loop-k c =
     let w = c.requires.0 in
-    let l = c.loop-k in
-    (
+    let l = c.loop-k in (
       omega (arith, l.invariant.size, w.own, c.add_arc.auto),
       w.meters,
       w.deep,

@@ -1,6 +1,5 @@
 use native.Mathlib.Omega.{arith}
 use mir.Facts.{to_z-of_z}
-use borrow.Author.Rules.{rules}
 use Rattle.arcs.proofs.ArcWalk.{within_zero, within_deep, within_none, within_added, into_room}
 use Rattle.arcs.proofs.rows.add_arcs_within.Goals as goal
 

@@ -1,5 +1,4 @@
 use native.Mathlib.Omega.{arith}
-use borrow.Author.Rules.{rules}
 use Rattle.arcs.proofs.DepthRows.{depths_inside, depths_room, depth_row, behind_row}
 use Rattle.arcs.proofs.Slices.{depths_few}
 use Rattle.arcs.proofs.rows.add_depths.Goals as goal

@@ -1,7 +1,6 @@
 use Prim.Native.Nat.{◌*◌}
 use lib.IntN.{pos}
 use native.Mathlib.Omega.{arith}
-use borrow.Author.Rules.{rules}
 use Rattle.links.proofs.Walk.{arrays_few}
 use Rattle.qubo.proofs.Turns.{fits_less}
 use Rattle.arcs.proofs.Signed.{opposite_is, less_small, plain}

@@ -1,7 +1,6 @@
 use Prim.Native.Nat.{◌*◌}
 use lib.IntN.{pos}
 use native.Mathlib.Omega.{arith}
-use borrow.Author.Rules.{rules}
 use Rattle.qubo.proofs.Turns.{fits_less}
 use Rattle.arcs.proofs.ArcLists.{lent_arc}
 use Rattle.arcs.proofs.EntryRows.{depth_held, depth_entry, root_entry, arc_held, arc_link, arc_under, arc_entry, behind_entry, entries_any}

@@ -1,7 +1,6 @@
 use lib.IntN.{pos}
 use native.Mathlib.Omega.{arith}
 use mir.Facts.{to_z-of_z}
-use borrow.Author.Rules.{rules}
 use Rattle.qubo.proofs.Turns.{fits_less}
 use Rattle.arcs.proofs.ArcWalk.{walk_on}
 use Rattle.arcs.proofs.Signed.{opposite_is, plain}
@@ -34,8 +33,7 @@ add_pair-requires c =
     let a = plain c.args.penalty (omega (arith, c.requires.0.penalty)) in
     let q = to_z-of_z c.ranges.q in
     let small = held_abs _ _ _ _ _ _ _ _ c.requires.6 in
-    let first = rw (a, opposite_is (pos c.args.penalty) (omega (arith, c.requires.0.penalty))) at c.add_single.ensures in
-    (
+    let first = rw (a, opposite_is (pos c.args.penalty) (omega (arith, c.requires.0.penalty))) at c.add_single.ensures in (
       omega (arith, c.requires.0.own, c.add_single.auto),
       rw c.depth_bit-own.ensures.0 (omega (arith, c.requires.0.inside, c.add_single.auto, depth_below _ _ _ _ c.requires.2 c.requires.3 c.requires.5)),
       rw (q, c.depth_bit-own.ensures.0) (depth_room _ _ _ _ _ _ _ _ _ _ c.requires.0 c.requires.1.few c.requires.6 _ first),

@@ -1,5 +1,4 @@
 use native.Mathlib.Omega.{arith}
-use borrow.Author.Rules.{rules}
 use Rattle.arcs.proofs.Signed.{plain}
 use Rattle.arcs.proofs.DepthRows.{root_below, root_room, root_row}
 use Rattle.arcs.proofs.rows.add_root.Goals as goal

@@ -1,6 +1,5 @@
 use lib.IntN.{pos}
 use native.Mathlib.Omega.{arith}
-use borrow.Author.Rules.{rules}
 use Rattle.qubo.proofs.Turns.{fits_abs}
 use Rattle.arcs.proofs.Signed.{plain}
 use Rattle.arcs.proofs.RowRoom.{single_room}

@@ -1,5 +1,4 @@
 use native.Mathlib.Omega.{arith}
-use borrow.Author.Rules.{rules}
 use Rattle.arcs.proofs.Slices.{meter_within, depths_few}
 use Rattle.arcs.proofs.Entered.{entry_room, entry_added}
 use Rattle.arcs.proofs.sums.add_arc.Goals as goal

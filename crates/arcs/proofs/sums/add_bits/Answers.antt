@@ -1,8 +1,6 @@
-use Prim.Native.Nat.{◌-◌, ◌≤◌}
 use mathlib.Core.Path.{refl}
-use lib.ListN.{length}
 use native.Mathlib.Omega.{arith}
-use Rattle.arcs.proofs.Entered.{BitsAdded, bits_start, bits_turn}
+use Rattle.arcs.proofs.Entered.{bits_start, bits_turn}
 use Rattle.arcs.proofs.sums.add_bits.Goals as goal
 
 pub loop-i-init : goal.loop-i-init

@@ -1,8 +1,6 @@
 use Prim.Native.Nat.{◌-◌, ◌≤◌}
-use mathlib.Core.Path.{refl}
 use lib.ListN.{length}
-use native.Mathlib.Omega.{arith}
-use Rattle.arcs.proofs.Entered.{BitsAdded, bits_start, bits_turn}
+use Rattle.arcs.proofs.Entered.{BitsAdded}
 use Rattle.arcs.proofs.sums.add_bits.Given as goal
 
 abbrev pub invariant-loop-i : goal.invariant-loop-i

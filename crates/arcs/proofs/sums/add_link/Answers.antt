@@ -1,5 +1,4 @@
 use Rattle.arcs.proofs.Entered.{none_added, up_room, back_room, both_added}
-use borrow.Author.Rules.{rules}
 use Rattle.arcs.proofs.sums.add_link.Goals as goal
 
 pub returns-then-n-eq0 : goal.returns-then-n-eq0

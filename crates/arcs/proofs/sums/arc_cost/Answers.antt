@@ -1,7 +1,6 @@
-use Prim.Native.Nat.{◌-◌, ◌*◌, ◌≤◌}
-use lib.ListN.{length, get_or}
+use lib.ListN.{get_or}
 use native.Mathlib.Omega.{arith}
-use Rattle.arcs.proofs.Summing.{CostTo, cost_start, cost_turn, cost_end, cost_small}
+use Rattle.arcs.proofs.Summing.{cost_start, cost_turn, cost_end, cost_small}
 use Rattle.arcs.proofs.sums.arc_cost.Goals as goal
 
 pub loop-k-init : goal.loop-k-init

@@ -1,7 +1,6 @@
 use Prim.Native.Nat.{◌-◌, ◌*◌, ◌≤◌}
-use lib.ListN.{length, get_or}
-use native.Mathlib.Omega.{arith}
-use Rattle.arcs.proofs.Summing.{CostTo, cost_start, cost_turn, cost_end, cost_small}
+use lib.ListN.{length}
+use Rattle.arcs.proofs.Summing.{CostTo}
 use Rattle.arcs.proofs.sums.arc_cost.Given as goal
 
 abbrev pub invariant-loop-k : goal.invariant-loop-k

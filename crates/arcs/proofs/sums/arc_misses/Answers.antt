@@ -1,5 +1,4 @@
 use native.Mathlib.Omega.{arith}
-use borrow.Author.Rules.{rules}
 use Rattle.arcs.proofs.Summing.{above_fits, below_fits, misses_room, arc_misses_is}
 use Rattle.arcs.proofs.sums.arc_misses.Goals as goal
 

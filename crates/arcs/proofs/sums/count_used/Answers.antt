@@ -1,7 +1,5 @@
-use Prim.Native.Nat.{◌-◌, ◌≤◌}
-use lib.ListN.{length}
 use native.Mathlib.Omega.{arith}
-use Rattle.arcs.proofs.LinkBits.{CountedTo, counted_start, counted_turn, counted_end, links_within}
+use Rattle.arcs.proofs.LinkBits.{counted_start, counted_turn, counted_end, links_within}
 use Rattle.arcs.proofs.sums.count_used.Goals as goal
 
 pub loop-k-init : goal.loop-k-init

@@ -1,7 +1,6 @@
 use Prim.Native.Nat.{◌-◌, ◌≤◌}
 use lib.ListN.{length}
-use native.Mathlib.Omega.{arith}
-use Rattle.arcs.proofs.LinkBits.{CountedTo, counted_start, counted_turn, counted_end, links_within}
+use Rattle.arcs.proofs.LinkBits.{CountedTo}
 use Rattle.arcs.proofs.sums.count_used.Given as goal
 
 abbrev pub invariant-loop-k : goal.invariant-loop-k

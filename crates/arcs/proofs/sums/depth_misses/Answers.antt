@@ -1,5 +1,4 @@
 use native.Mathlib.Omega.{arith}
-use borrow.Author.Rules.{rules}
 use Rattle.arcs.proofs.Summing.{front_length, front_assignment, depth_misses_is}
 use Rattle.arcs.proofs.sums.depth_misses.Goals as goal
 

@@ -1,14 +1,8 @@
-use Prim.Native.Nat.{ℕ, ◌≤◌, ◌+◌, ◌-◌, ◌*◌}
-use mathlib.Core.Path.{◌∙◌}
+use Prim.Native.Nat.{ℕ, ◌≤◌, ◌-◌, ◌*◌}
 use mathlib.Core.List.{List}
 use lib.ListN.{length}
-use native.Mathlib.Omega.{arith}
-use Rattle.links.proofs.Walk.{ends_at, few_links}
-use Rattle.links.specs.Links.{links_of}
-use Rattle.arcs.proofs.ArcSums.{ArcsSummed, summed_start, summed_turn, summed_end}
-use Rattle.arcs.proofs.Slices.{arc_within}
-use Rattle.arcs.proofs.Summing.{misses_of, misses_sum, misses_link}
-use Rattle.arcs.specs.Arcs.{arcs}
+use Rattle.arcs.proofs.ArcSums.{ArcsSummed}
+use Rattle.arcs.proofs.Summing.{misses_of}
 use Rattle.arcs.proofs.sums.end_misses.Given as goal
 
 abbrev pub invariant-loop-k : goal.invariant-loop-k

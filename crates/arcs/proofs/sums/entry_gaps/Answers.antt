@@ -1,6 +1,5 @@
 use mathlib.Core.Path.{refl}
 use native.Mathlib.Omega.{arith}
-use borrow.Author.Rules.{rules}
 use Rattle.lists.proofs.Stores.{zero_entries}
 use Rattle.links.specs.Links.{links_of}
 use Rattle.arcs.proofs.Entered.{counts_small, entry_gaps_is}

@@ -1,8 +1,6 @@
 use Prim.Native.Nat.{◌-◌}
 use lib.ListN.{length}
-use native.Mathlib.Omega.{arith}
-use Rattle.links.proofs.Walk.{ends_at}
-use Rattle.arcs.proofs.Entered.{EnteredTo, entered_start, entered_room, entered_turn, entered_end}
+use Rattle.arcs.proofs.Entered.{EnteredTo}
 use Rattle.arcs.proofs.sums.gather_entries.Given as goal
 
 abbrev pub invariant-loop-k : goal.invariant-loop-k

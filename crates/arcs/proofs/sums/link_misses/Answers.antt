@@ -1,7 +1,6 @@
 use mathlib.Core.List.{[]}
 use native.Mathlib.Omega.{arith}
 use Rattle.arcs.proofs.Summing.{misses_none}
-use borrow.Author.Rules.{rules}
 use Rattle.arcs.proofs.sums.link_misses.Goals as goal
 
 pub returns-then-n-eq0 : goal.returns-then-n-eq0

@@ -3,7 +3,6 @@ use mathlib.Core.Path.{refl}
 use native.Mathlib.Omega.{arith}
 use Rattle.arcs.proofs.Slices.{slice_short, link_within}
 use Rattle.arcs.proofs.LinkBits.{link_set_is, link_set_low}
-use borrow.Author.Rules.{rules}
 use Rattle.arcs.proofs.sums.link_set.Goals as goal
 
 pub slice_bounds-set_count-end : goal.slice_bounds-set_count-end

@@ -1,8 +1,8 @@
-use Prim.Native.Nat.{◌≤◌, ◌+◌, ◌-◌, ◌*◌}
-use mathlib.Core.Path.{◌≡◌, ap}
+use Prim.Native.Nat.{◌+◌}
+use mathlib.Core.Path.{ap}
 use native.Mathlib.Omega.{arith}
 use Rattle.arcs.proofs.Slices.{meter_within, depths_few}
-use Rattle.arcs.proofs.Summing.{meters_gaps, meters_start, gaps_room, meters_next, meters_end}
+use Rattle.arcs.proofs.Summing.{meters_start, gaps_room, meters_next, meters_end}
 use Rattle.arcs.proofs.sums.meter_gaps.Goals as goal
 
 pub depth_width-width-requires : goal.depth_width-width-requires

@@ -1,8 +1,6 @@
-use Prim.Native.Nat.{◌≤◌, ◌+◌, ◌-◌, ◌*◌}
-use mathlib.Core.Path.{◌≡◌, ap}
-use native.Mathlib.Omega.{arith}
-use Rattle.arcs.proofs.Slices.{meter_within, depths_few}
-use Rattle.arcs.proofs.Summing.{meters_gaps, meters_start, gaps_room, meters_next, meters_end}
+use Prim.Native.Nat.{◌≤◌, ◌-◌, ◌*◌}
+use mathlib.Core.Path.{◌≡◌}
+use Rattle.arcs.proofs.Summing.{meters_gaps}
 use Rattle.arcs.proofs.sums.meter_gaps.Given as goal
 
 abbrev pub invariant-loop-v : goal.invariant-loop-v

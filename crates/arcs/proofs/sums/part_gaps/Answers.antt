@@ -1,8 +1,6 @@
-use Prim.Native.Nat.{◌≤◌, ◌+◌, ◌-◌, ◌*◌}
-use mathlib.Core.Path.{◌≡◌}
 use lib.ListN.{length, get_or}
 use native.Mathlib.Omega.{arith}
-use Rattle.arcs.proofs.Summing.{gaps_before, gaps_start, gaps_next, gaps_end, bit_gap_steps}
+use Rattle.arcs.proofs.Summing.{gaps_start, gaps_next, gaps_end, bit_gap_steps}
 use Rattle.arcs.proofs.sums.part_gaps.Goals as goal
 
 pub loop-t-init : goal.loop-t-init

@@ -1,8 +1,7 @@
 use Prim.Native.Nat.{◌≤◌, ◌+◌, ◌-◌, ◌*◌}
 use mathlib.Core.Path.{◌≡◌}
-use lib.ListN.{length, get_or}
-use native.Mathlib.Omega.{arith}
-use Rattle.arcs.proofs.Summing.{gaps_before, gaps_start, gaps_next, gaps_end, bit_gap_steps}
+use lib.ListN.{length}
+use Rattle.arcs.proofs.Summing.{gaps_before}
 use Rattle.arcs.proofs.sums.part_gaps.Given as goal
 
 abbrev pub invariant-loop-t : goal.invariant-loop-t

@@ -1,8 +1,7 @@
-use Prim.Native.Nat.{◌≤◌, ◌+◌, ◌-◌, ◌*◌}
-use mathlib.Core.Path.{◌≡◌}
+use Prim.Native.Nat.{◌+◌}
 use lib.ListN.{length, get_or}
 use native.Mathlib.Omega.{arith}
-use Rattle.arcs.proofs.Summing.{miss_small, misses_to, misses_start, misses_next, misses_end}
+use Rattle.arcs.proofs.Summing.{miss_small, misses_start, misses_next, misses_end}
 use Rattle.arcs.proofs.sums.part_misses.Goals as goal
 
 pub loop-i-init : goal.loop-i-init

@@ -1,8 +1,7 @@
-use Prim.Native.Nat.{◌≤◌, ◌+◌, ◌-◌, ◌*◌}
+use Prim.Native.Nat.{◌≤◌, ◌-◌, ◌*◌}
 use mathlib.Core.Path.{◌≡◌}
-use lib.ListN.{length, get_or}
-use native.Mathlib.Omega.{arith}
-use Rattle.arcs.proofs.Summing.{miss_small, misses_to, misses_start, misses_next, misses_end}
+use lib.ListN.{length}
+use Rattle.arcs.proofs.Summing.{misses_to}
 use Rattle.arcs.proofs.sums.part_misses.Given as goal
 
 abbrev pub invariant-loop-i : goal.invariant-loop-i

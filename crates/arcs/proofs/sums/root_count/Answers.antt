@@ -1,8 +1,7 @@
-use Prim.Native.Nat.{◌≤◌, ◌+◌, ◌-◌}
-use mathlib.Core.Path.{◌≡◌}
+use Prim.Native.Nat.{◌+◌}
 use native.Mathlib.Omega.{arith}
 use Rattle.arcs.proofs.Slices.{meter_within}
-use Rattle.arcs.proofs.Summing.{roots_to, roots_start, roots_next, roots_end}
+use Rattle.arcs.proofs.Summing.{roots_start, roots_next, roots_end}
 use Rattle.arcs.proofs.sums.root_count.Goals as goal
 
 pub loop-v-init : goal.loop-v-init

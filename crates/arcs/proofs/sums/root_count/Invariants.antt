@@ -1,8 +1,6 @@
-use Prim.Native.Nat.{◌≤◌, ◌+◌, ◌-◌}
+use Prim.Native.Nat.{◌≤◌, ◌-◌}
 use mathlib.Core.Path.{◌≡◌}
-use native.Mathlib.Omega.{arith}
-use Rattle.arcs.proofs.Slices.{meter_within}
-use Rattle.arcs.proofs.Summing.{roots_to, roots_start, roots_next, roots_end}
+use Rattle.arcs.proofs.Summing.{roots_to}
 use Rattle.arcs.proofs.sums.root_count.Given as goal
 
 abbrev pub invariant-loop-v : goal.invariant-loop-v

@@ -1,4 +1,3 @@
-use borrow.Author.Rules.{rules}
 use Rattle.arcs.proofs.Summing.{root_miss_is}
 use Rattle.arcs.proofs.sums.root_miss.Goals as goal
 

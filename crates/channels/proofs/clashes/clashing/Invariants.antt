@@ -1,12 +1,8 @@
 use Prim.Native.Nat.{◌-◌}
-use mathlib.Core.Path.{◌∙◌}
 use lib.ListN.{length}
-use native.Mathlib.Omega.{arith}
-use Rattle.links.proofs.Walk.{link_at, Summed, summed_start, summed_turn, summed_end}
-use Rattle.onehot.proofs.Ends.{ends_fit}
+use Rattle.links.proofs.Walk.{Summed}
 use Prim.Native.Nat.{◌*◌}
-use Rattle.onehot.proofs.LinkSums.{bits_link, bits_small, bits_link_fact, bits_room}
-use Rattle.channels.proofs.Clashing.{clashing_sum, both_bits}
+use Rattle.onehot.proofs.LinkSums.{bits_link}
 use Rattle.channels.proofs.clashes.clashing.Given as goal
 
 abbrev pub invariant-loop-k : goal.invariant-loop-k

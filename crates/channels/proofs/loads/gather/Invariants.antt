@@ -1,8 +1,6 @@
 use Prim.Native.Nat.{◌-◌}
 use lib.ListN.{length}
-use native.Mathlib.Omega.{arith}
-use Rattle.links.proofs.Walk.{link_at}
-use Rattle.channels.proofs.Gathering.{Gathered, gather_start, gather_end, first_room, second_room, gather_turn}
+use Rattle.channels.proofs.Gathering.{Gathered}
 use Rattle.channels.proofs.loads.gather.Given as goal
 
 abbrev pub invariant-loop-k : goal.invariant-loop-k

@@ -1,7 +1,6 @@
 use Prim.Native.Nat.{◌-◌, ◌≤◌}
 use mathlib.Core.Path.{◌≡◌}
-use native.Mathlib.Omega.{arith}
-use Rattle.channels.proofs.Gathering.{top_of, top_start, top_new, top_old, top_end}
+use Rattle.channels.proofs.Gathering.{top_of}
 use Rattle.channels.proofs.loads.greatest_load.Given as goal
 
 abbrev pub invariant-loop-m : goal.invariant-loop-m

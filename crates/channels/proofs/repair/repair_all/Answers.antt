@@ -1,11 +1,10 @@
-use Prim.Native.Nat.{◌≤◌, ◌-◌}
-use mathlib.Core.Path.{◌≡◌, refl}
+use mathlib.Core.Path.{refl}
 use native.Mathlib.Omega.{arith}
-use lib.ListN.{length, take, length-set}
+use lib.ListN.{length-set}
 use lib.Seq.{length-take-le}
 use Rattle.links.specs.Links.{links_of}
 use Rattle.onehot.proofs.Parts.{part_within, part_is}
-use Rattle.channels.proofs.Repairing.{channel_le, channels_to, channels_start, channels_next, channels_end}
+use Rattle.channels.proofs.Repairing.{channel_le, channels_start, channels_next, channels_end}
 use Rattle.channels.proofs.repair.repair_all.Goals as goal
 
 pub loop-v-init : goal.loop-v-init

@@ -1,11 +1,8 @@
 use Prim.Native.Nat.{◌≤◌, ◌-◌}
-use mathlib.Core.Path.{◌≡◌, refl}
-use native.Mathlib.Omega.{arith}
-use lib.ListN.{length, take, length-set}
-use lib.Seq.{length-take-le}
+use mathlib.Core.Path.{◌≡◌}
+use lib.ListN.{length, take}
 use Rattle.links.specs.Links.{links_of}
-use Rattle.onehot.proofs.Parts.{part_within, part_is}
-use Rattle.channels.proofs.Repairing.{channel_le, channels_to, channels_start, channels_next, channels_end}
+use Rattle.channels.proofs.Repairing.{channels_to}
 use Rattle.channels.proofs.repair.repair_all.Given as goal
 
 abbrev pub invariant-loop-v : goal.invariant-loop-v

@@ -2,7 +2,6 @@ use mathlib.Core.Path.{◌∙◌}
 use Rattle.links.specs.Links.{links_of}
 use Rattle.channels.specs.Repair.{quietest}
 use Rattle.channels.proofs.Repairing.{meter_silent, meter_lowest}
-use borrow.Author.Rules.{rules}
 use Rattle.channels.proofs.repair.repair_meter.Goals as goal
 
 pub returns-then-c-eq0 : goal.returns-then-c-eq0

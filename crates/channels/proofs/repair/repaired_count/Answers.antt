@@ -1,10 +1,8 @@
-use Prim.Native.Nat.{◌≤◌, ◌-◌}
 use mathlib.Core.Path.{◌≡◌, sym, ◌∙◌}
-use mathlib.Core.Logic.{⊎_elim}
 use native.Mathlib.Omega.{arith}
 use Rattle.onehot.proofs.Parts.{part_within, cut_short, cut_count}
-use Rattle.channels.specs.Repair.{repaired}
 use Rattle.channels.proofs.Repairing.{repaired_zero, repaired_more, repaired_same}
+use Rattle.channels.proofs.repair.repaired_count.Goals.{then-k-ne1, else-k-ne1}
 use Rattle.channels.proofs.repair.repaired_count.Goals as goal
 
 pub loop-v-init : goal.loop-v-init
@@ -49,10 +47,10 @@ loop-v-preserved c =
     let s = c.args in
     let v = c.loop-v.v in
     let k = c.set_count-k.ensures ∙ cut_count s.n s.meters v s.bits.now (omega arith) (omega arith) in
-    ⊎_elim
-    (λ w. omega (arith, repaired_more s.n s.bits.now v (λ e. w.0.taken (k ∙ e))))
-    (λ w. omega (arith, repaired_same s.n s.bits.now v (sym k ∙ w.0.left)))
-    c.if-k-ne1.branch
+    elim c.if-k-ne1.branch [
+      | then-k-ne1 w ↦ omega (arith, repaired_more s.n s.bits.now v (λ e. w.if-k-ne1.true (k ∙ e)))
+      | else-k-ne1 w ↦ omega (arith, repaired_same s.n s.bits.now v (sym k ∙ w.if-k-ne1.false))
+    ]
 
 pub returns : goal.returns
 returns c =

@@ -1,10 +1,6 @@
 use Prim.Native.Nat.{◌≤◌, ◌-◌}
-use mathlib.Core.Path.{◌≡◌, sym, ◌∙◌}
-use mathlib.Core.Logic.{⊎_elim}
-use native.Mathlib.Omega.{arith}
-use Rattle.onehot.proofs.Parts.{part_within, cut_short, cut_count}
+use mathlib.Core.Path.{◌≡◌}
 use Rattle.channels.specs.Repair.{repaired}
-use Rattle.channels.proofs.Repairing.{repaired_zero, repaired_more, repaired_same}
 use Rattle.channels.proofs.repair.repaired_count.Given as goal
 
 abbrev pub invariant-loop-v : goal.invariant-loop-v

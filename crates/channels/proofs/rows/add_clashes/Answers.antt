@@ -1,12 +1,10 @@
-use Prim.Native.Nat.{◌-◌, ◌≤◌}
 use native.Mathlib.Omega.{arith}
 use native.Mathlib.Nat.{div-le_self}
-use lib.ListN.{length}
 use Rattle.links.proofs.Halving.{ends_rise}
 use Rattle.links.proofs.Walk.{arrays_few}
 use Rattle.qubo.proofs.Turns.{fits_abs}
 use Rattle.onehot.proofs.Ends.{bits_few}
-use Rattle.channels.proofs.ClashRows.{Added, added_first, added_stop, added_all, turn_inside, weight_room, weight_turn}
+use Rattle.channels.proofs.ClashRows.{added_first, added_stop, added_all, turn_inside, weight_room, weight_turn}
 use Rattle.channels.proofs.rows.add_clashes.Goals as goal
 
 pub nonzero_div-m : goal.nonzero_div-m
@@ -90,8 +88,7 @@ loop-k-smaller c = omega arith
 
 pub loop-k-preserved : goal.loop-k-preserved
 loop-k-preserved c =
-    let l = c.loop-k in
-    (
+    let l = c.loop-k in (
       omega (arith, l.invariant.0),
       weight_turn _ _ _ _ _ _ c.requires.by_index.1 _ _ _ l.invariant.1 c.loop-k-test.true c.if-us-k.false _ c.add_pair.ensures,
     )

@@ -1,5 +1,4 @@
 use native.Mathlib.Omega.{arith}
-use borrow.Author.Rules.{rules}
 use Rattle.onehot.proofs.Ends.{bits_few}
 use Rattle.onehot.proofs.Rows.{hots_ready}
 use Rattle.channels.proofs.ClashRows.{clashes_ready, row_done}
@@ -15,7 +14,7 @@ pub add_clashes-requires : goal.add_clashes-requires
 add_clashes-requires c =
     let p = c.requires in
     let h = clashes_ready _ _ _ _ _ _ _ p.1 p.2 _ p.3 _ c.clear.ensures _ (c.add_one_hots.ensures _ p.4) in
-    ((_, p.1, h.0, p.4), h.1)
+    record { by_index = (_, p.1, h.0, p.4); room = h.1 }
 
 pub returns : goal.returns
 returns c =

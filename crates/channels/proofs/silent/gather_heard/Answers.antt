@@ -1,6 +1,5 @@
 use Rattle.links.proofs.Halving.{ends_rise}
 use Rattle.links.proofs.Walk.{arrays_few}
-use borrow.Author.Rules.{rules}
 use Rattle.channels.proofs.silent.gather_heard.Goals as goal
 
 pub first_link-first-requires : goal.first_link-first-requires

@@ -1,8 +1,7 @@
-use Prim.Native.Nat.{◌≤◌, ◌-◌}
-use lib.ListN.{length, get_or}
+use lib.ListN.{get_or}
 use native.Mathlib.Omega.{arith}
 use Rattle.links.proofs.Walk.{link_at, arrays_few}
-use Rattle.channels.proofs.Hearing.{HeardSoFar, heard_from, heard_room, heard_up, heard_stop, heard_end}
+use Rattle.channels.proofs.Hearing.{heard_from, heard_room, heard_up, heard_stop, heard_end}
 use Rattle.channels.proofs.silent.gather_higher.Goals as goal
 
 pub loop-k-init : goal.loop-k-init

@@ -1,8 +1,6 @@
 use Prim.Native.Nat.{◌≤◌, ◌-◌}
-use lib.ListN.{length, get_or}
-use native.Mathlib.Omega.{arith}
-use Rattle.links.proofs.Walk.{link_at, arrays_few}
-use Rattle.channels.proofs.Hearing.{HeardSoFar, heard_from, heard_room, heard_up, heard_stop, heard_end}
+use lib.ListN.{length}
+use Rattle.channels.proofs.Hearing.{HeardSoFar}
 use Rattle.channels.proofs.silent.gather_higher.Given as goal
 
 abbrev pub invariant-loop-k : goal.invariant-loop-k

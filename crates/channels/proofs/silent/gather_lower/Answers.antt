@@ -1,9 +1,9 @@
-use Prim.Native.Nat.{◌≤◌, ◌<◌, ◌+◌, ◌-◌}
+use Prim.Native.Nat.{◌<◌, ◌+◌}
 use mathlib.Core.Path.{◌≡◌}
 use lib.ListN.{length, get_or}
 use native.Mathlib.Omega.{arith}
 use Rattle.links.proofs.Walk.{link_at, arrays_few}
-use Rattle.channels.proofs.Hearing.{HeardSoFar, heard_start, heard_room, heard_down, heard_past, heard_left}
+use Rattle.channels.proofs.Hearing.{heard_start, heard_room, heard_down, heard_past, heard_left}
 use Rattle.channels.proofs.silent.gather_lower.Goals as goal
 
 pub next_of-k-requires : goal.next_of-k-requires
@@ -11,14 +11,13 @@ next_of-k-requires c =
     (omega arith, omega (arith, c.requires.by_index.1.arrays.same_v, c.requires.first_in_bounds.0))
 
 pub loop-k-init : goal.loop-k-init
-loop-k-init c =
-    (
-      c.next_of-k.ensures.1,
-      c.next_of-k.ensures.3,
-      heard_past _ _ _ _ _ _ _ c.requires.by_index.1 c.requires.by_index.2 _ _ c.next_of-k.result (omega (arith, c.requires.first_in_bounds.0, c.next_of-k.ensures.1)) 0 (omega arith)
-          (λ j a b. (λ e. omega (arith, c.requires.first_in_bounds.1 j (omega (arith, c.next_of-k.ensures.1))), c.next_of-k.ensures.2 j a b))
-          (heard_start _ _ _ _ _ _ _ _ c.requires.by_index.3 c.requires.by_index.4),
-    )
+loop-k-init c = (
+  c.next_of-k.ensures.1,
+  c.next_of-k.ensures.3,
+  heard_past _ _ _ _ _ _ _ c.requires.by_index.1 c.requires.by_index.2 _ _ c.next_of-k.result (omega (arith, c.requires.first_in_bounds.0, c.next_of-k.ensures.1)) 0 (omega arith)
+      (λ j a b. (λ e. omega (arith, c.requires.first_in_bounds.1 j (omega (arith, c.next_of-k.ensures.1))), c.next_of-k.ensures.2 j a b))
+      (heard_start _ _ _ _ _ _ _ _ c.requires.by_index.3 c.requires.by_index.4),
+)
 
 pub bounds-us-k : goal.bounds-us-k
 bounds-us-k c = omega (arith, c.requires.first_in_bounds.0)

@@ -1,9 +1,7 @@
-use Prim.Native.Nat.{◌≤◌, ◌<◌, ◌+◌, ◌-◌}
+use Prim.Native.Nat.{◌≤◌, ◌<◌, ◌-◌}
 use mathlib.Core.Path.{◌≡◌}
-use lib.ListN.{length, get_or}
-use native.Mathlib.Omega.{arith}
-use Rattle.links.proofs.Walk.{link_at, arrays_few}
-use Rattle.channels.proofs.Hearing.{HeardSoFar, heard_start, heard_room, heard_down, heard_past, heard_left}
+use lib.ListN.{get_or}
+use Rattle.channels.proofs.Hearing.{HeardSoFar}
 use Rattle.channels.proofs.silent.gather_lower.Given as goal
 
 abbrev pub invariant-loop-k : goal.invariant-loop-k

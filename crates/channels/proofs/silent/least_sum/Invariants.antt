@@ -1,7 +1,6 @@
 use Prim.Native.Nat.{◌-◌, ◌≤◌}
 use mathlib.Core.Path.{◌≡◌}
-use native.Mathlib.Omega.{arith}
-use Rattle.channels.proofs.Hearing.{least_of, least_start, least_new, least_old, least_end}
+use Rattle.channels.proofs.Hearing.{least_of}
 use Rattle.channels.proofs.silent.least_sum.Given as goal
 
 abbrev pub invariant-loop-i : goal.invariant-loop-i

@@ -1,6 +1,5 @@
-use Prim.Native.Nat.{◌≤◌, ◌-◌}
 use native.Mathlib.Omega.{arith}
-use Rattle.channels.proofs.Hearing.{Passed, passed_next}
+use Rattle.channels.proofs.Hearing.{passed_next}
 use Rattle.channels.proofs.silent.next_of.Goals as goal
 
 pub loop-k-init : goal.loop-k-init

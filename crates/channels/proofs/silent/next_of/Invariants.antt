@@ -1,6 +1,5 @@
 use Prim.Native.Nat.{◌≤◌, ◌-◌}
-use native.Mathlib.Omega.{arith}
-use Rattle.channels.proofs.Hearing.{Passed, passed_next}
+use Rattle.channels.proofs.Hearing.{Passed}
 use Rattle.channels.proofs.silent.next_of.Given as goal
 
 abbrev pub invariant-loop-k : goal.invariant-loop-k

@@ -1,7 +1,6 @@
 use mathlib.Core.Path.{refl}
 use Rattle.lists.proofs.Stores.{zero_entries}
 use Rattle.channels.proofs.Hearing.{quietest_is}
-use borrow.Author.Rules.{rules}
 use Rattle.channels.proofs.silent.quietest_at.Goals as goal
 
 pub gather_heard-requires : goal.gather_heard-requires
