@@ -1,5 +1,5 @@
 -- One meter's square in row i, where bit i has the coefficient c in its form: a number of bit i itself, then the numbered bits and the arc bits with the factor 2 A c. Its numbers fit and there is room. The function add_degree of src/degrees.rt cites these. Assumes nothing.
-use Prim.Native.Nat.{ℕ, zero, suc, ◌+◌, ◌-◌, ◌*◌, ◌^◌, ◌≤◌, ◌<◌}
+use Prim.Native.Nat.{ℕ, zero, suc, ◌+◌, ◌*◌, ◌^◌, ◌≤◌, ◌<◌}
 use mathlib.Core.Path.{◌≡◌, refl, sym, ap, ◌∙◌}
 use mathlib.Core.List.{List, [], ◌∷◌}
 use native.Mathlib.Omega.{arith}

@@ -22,4 +22,4 @@ returns-in-Refused c =
 pub returns-in-Accepted : goal.returns-in-Accepted
 returns-in-Accepted c =
     let g = given c.args.image.now c.args.ask _ c.problem_in-posed.ensures _ _ _ c.in-Accepted.is in
-    (refl, constant_said _ _ _ (number_given _ _ _ _ g.none (to_z-of_z (sfits_of {w = w64} c.constant_of.type-inv) ∙ c.constant_of.ensures (links c.args.image.now) ∙ ap (λ (I : Instance). constant_of I.formula) g.is_instance)))
+    (refl, constant_said _ _ _ (number_given _ _ _ _ g.none (to_z-of_z (sfits_of {w = w64} c.constant_of.type_inv) ∙ c.constant_of.ensures (links c.args.image.now) ∙ ap (λ (I : Instance). constant_of I.formula) g.is_instance)))

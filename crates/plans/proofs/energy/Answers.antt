@@ -46,4 +46,4 @@ returns-in-Refused c =
 pub returns-else-number-ne0 : goal.returns-else-number-ne0
 returns-else-number-ne0 c =
     let h = held c.args.image.now c.args.ask _ _ _ _ c.pose-posed.ensures _ _ _ c.in-Accepted.is in
-    ((refl, refl), energy_given _ _ h.given.alike _ h.given.is_bits c.args.bits.now _ c.of_energy-number.ensures (omega arith) _ h.is_instance _ _ (to_z-of_z (sfits_of {w = w64} c.energy_of.type-inv)) c.energy_of.ensures)
+    ((refl, refl), energy_given _ _ h.given.alike _ h.given.is_bits c.args.bits.now _ c.of_energy-number.ensures (omega arith) _ h.is_instance _ _ (to_z-of_z (sfits_of {w = w64} c.energy_of.type_inv)) c.energy_of.ensures)

@@ -4,7 +4,6 @@ use native.Mathlib.Omega.{arith}
 use mir.Syntax.{w64}
 use mir.Facts.{to_z_pos}
 use Rattle.neighbours.proofs.CountRows.{counts_before, counts_short, meter_high, counts_own, counts_ready}
-use borrow.Author.Rules.{rules}
 use Rattle.neighbours.proofs.counts.add_counts.Goals as goal
 
 pub returns-then-i-base : goal.returns-then-i-base

@@ -1,6 +1,5 @@
 use native.Mathlib.Omega.{arith}
 use Rattle.neighbours.proofs.DegreeSums.{counts_behind, misses_are}
-use borrow.Author.Rules.{rules}
 use Rattle.neighbours.proofs.counts.count_misses.Goals as goal
 
 pub misses_of-requires : goal.misses_of-requires

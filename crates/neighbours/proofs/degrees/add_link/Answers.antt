@@ -3,7 +3,6 @@ use mir.Facts.{to_z-of_z}
 use Rattle.qubo.proofs.RowAction.{add_none}
 use Rattle.neighbours.specs.Inner.{link_run}
 use Rattle.neighbours.proofs.DegreeParts.{part_yes, part_no}
-use borrow.Author.Rules.{rules}
 use Rattle.neighbours.proofs.degrees.add_link.Goals as goal
 
 pub add_run-requires : goal.add_run-requires

@@ -2,9 +2,8 @@ use mathlib.Core.Path.{◌≡◌, refl, ◌∙◌}
 use lib.IntN.{pos, ◌*ℤ◌}
 use borrow.Author.Rules.{sfits_of}
 use mir.Syntax.{w64}
-use mir.Val.{to_z}
 use mir.Facts.{to_z-of_z, to_z_pos}
-use Prim.Native.Nat.{◌+◌, ◌-◌}
+use Prim.Native.Nat.{◌+◌}
 use native.Mathlib.Omega.{arith}
 use Rattle.qubo.proofs.Turns.{fits_abs}
 use Rattle.neighbours.proofs.DegreeParts.{Numbered, numbered_start, numbered_size, numbered_fits, numbered_room, numbered_turn, numbered_end}
@@ -36,7 +35,7 @@ add_pair-requires c =
     let len = numbered_size c.args.q c.args.i c.args.start c.args.d c.args.row.now c.requires.1 c.requires.3 l.row l.t w in (
       omega (arith, len, c.requires.0),
       omega (arith, len, c.requires.2),
-      rw (to_z-of_z (sfits_of {w = w64} c.mul.type-inv), e) (numbered_room c.args.q c.args.i c.args.start c.args.d c.args.row.now c.requires.1 c.requires.3 l.row l.t w (omega arith)),
+      rw (to_z-of_z (sfits_of {w = w64} c.mul.type_inv), e) (numbered_room c.args.q c.args.i c.args.start c.args.d c.args.row.now c.requires.1 c.requires.3 l.row l.t w (omega arith)),
     )
 
 pub overflow_add-t : goal.overflow_add-t
@@ -51,7 +50,7 @@ loop-t-preserved c =
     let w : Numbered c.args.q c.args.i c.args.start c.args.d c.args.row.now l.row l.t = rw (to_z-of_z c.ranges.q) at l.invariant in
     let e : c.mul.result ≡ c.args.q *ℤ pos (l.t + 1) = c.mul.ensures ∙ rw (to_z-of_z c.ranges.q, to_z_pos w64 {n = l.t + 1} (omega (arith, c.requires.1))) refl in
     rw (to_z-of_z c.ranges.q)
-    (numbered_turn c.args.q c.args.i c.args.start c.args.d c.args.row.now c.requires.1 c.requires.3 l.row l.t w (omega arith) _ (c.add_pair.ensures ∙ rw (to_z-of_z (sfits_of {w = w64} c.mul.type-inv), e) refl))
+    (numbered_turn c.args.q c.args.i c.args.start c.args.d c.args.row.now c.requires.1 c.requires.3 l.row l.t w (omega arith) _ (c.add_pair.ensures ∙ rw (to_z-of_z (sfits_of {w = w64} c.mul.type_inv), e) refl))
 
 pub shape_of-row : goal.shape_of-row
 shape_of-row c =

@@ -1,13 +1,9 @@
 use mathlib.Core.Path.{refl, ◌∙◌}
 use Rattle.qubo.proofs.Turns.{fits_less}
 use Rattle.links.proofs.Walk.{few_links}
-use mir.Syntax.{w64}
-use mir.Val.{to_z}
 use mir.Facts.{to_z-of_z}
-use Prim.Native.Nat.{◌-◌}
-use lib.ListN.{length}
 use native.Mathlib.Omega.{arith}
-use Rattle.neighbours.proofs.DegreeParts.{Touched, touched_start, touched_ready, touched_turn, touched_end}
+use Rattle.neighbours.proofs.DegreeParts.{touched_start, touched_ready, touched_turn, touched_end}
 use Rattle.neighbours.proofs.degrees.add_touching.Goals as goal
 
 pub overflow_sub-less : goal.overflow_sub-less
@@ -31,7 +27,7 @@ bounds-vs-k c =
 pub add_link-requires : goal.add_link-requires
 add_link-requires c =
     let l = c.loop-k in
-    rw (to_z-of_z (rw (to_z-of_z c.ranges.q) (fits_less c.args.q (omega (arith, c.requires.3.factor)))), to_z-of_z c.ranges.q)
+    rw (to_z-of_z c.ranges.q, to_z-of_z (fits_less c.args.q (omega (arith, c.requires.3.factor))))
     (touched_ready _ _ _ _ _ _ c.requires.0 c.requires.1 _ _ c.requires.3 l.row l.k (rw (to_z-of_z c.ranges.q) at l.invariant) c.loop-k-test.true c.requires.2)
 
 pub overflow_add-k : goal.overflow_add-k
@@ -46,7 +42,7 @@ loop-k-preserved c =
     let l = c.loop-k in
     rw (to_z-of_z c.ranges.q)
     (touched_turn _ _ _ _ _ _ c.requires.0 c.requires.1 _ _ c.requires.3 l.row l.k (rw (to_z-of_z c.ranges.q) at l.invariant) c.loop-k-test.true _
-    (c.add_link.ensures ∙ rw (to_z-of_z (rw (to_z-of_z c.ranges.q) (fits_less c.args.q (omega (arith, c.requires.3.factor)))), to_z-of_z c.ranges.q) refl))
+    (c.add_link.ensures ∙ rw (to_z-of_z c.ranges.q, to_z-of_z (fits_less c.args.q (omega (arith, c.requires.3.factor)))) refl))
 
 pub shape_of-row : goal.shape_of-row
 shape_of-row c = c.loop-k.invariant.size

@@ -4,7 +4,6 @@ use Rattle.lists.proofs.Stores.{zero_entries}
 use Rattle.links.proofs.Walk.{few_links}
 use Rattle.arcs.proofs.LinkBits.{used_low}
 use Rattle.neighbours.proofs.DegreeSums.{gaps_are}
-use borrow.Author.Rules.{rules}
 use Rattle.neighbours.proofs.degrees.degree_gaps.Goals as goal
 
 pub gather_touches-requires : goal.gather_touches-requires

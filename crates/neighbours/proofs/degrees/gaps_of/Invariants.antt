@@ -1,9 +1,6 @@
-use Prim.Native.Nat.{◌≤◌, ◌*◌, ◌+◌, ◌-◌}
+use Prim.Native.Nat.{◌≤◌, ◌*◌, ◌-◌}
 use mathlib.Core.Path.{◌≡◌}
-use lib.ListN.{get_or}
-use native.Mathlib.Omega.{arith}
-use Rattle.lists.proofs.Sums.{gap_small}
-use Rattle.neighbours.proofs.DegreeSums.{gaps_to, gaps_start, own_fits, own_ready, gaps_next, gaps_end}
+use Rattle.neighbours.proofs.DegreeSums.{gaps_to}
 use Rattle.neighbours.proofs.degrees.gaps_of.Given as goal
 
 abbrev pub invariant-loop-v : goal.invariant-loop-v

@@ -1,8 +1,6 @@
 use Rattle.links.proofs.Walk.{few_links}
-use Prim.Native.Nat.{◌-◌}
-use lib.ListN.{length}
 use native.Mathlib.Omega.{arith}
-use Rattle.neighbours.proofs.DegreeSums.{Gathered, gather_start, first_ready, second_ready, gather_turn, gather_end, gather_low}
+use Rattle.neighbours.proofs.DegreeSums.{gather_start, first_ready, second_ready, gather_turn, gather_end, gather_low}
 use Rattle.neighbours.proofs.degrees.gather_touches.Goals as goal
 
 pub loop-k-init : goal.loop-k-init

@@ -1,6 +1,5 @@
 use Prim.Native.Nat.{ℕ, ◌*◌}
 use mathlib.Core.Path.{ap}
-use borrow.Author.Rules.{rules}
 use Rattle.qubo.specs.declared.Run.{Run}
 use Rattle.neighbours.proofs.degrees.link_run.Goals as goal
 

@@ -1,4 +1,7 @@
 use native.Mathlib.Omega.{arith}
+use lib.IntN.{◌*ℤ◌}
+use mir.Syntax.{w64}
+use mir.Val.{SFits}
 use mir.Facts.{to_z-of_z}
 use mathlib.Core.Path.{refl}
 use Rattle.qubo.proofs.Ints.{nat_abs_*ℤ}
@@ -9,4 +12,6 @@ pub overflow_mul-result : goal.overflow_mul-result
 overflow_mul-result c = rw (to_z-of_z c.ranges.x, to_z-of_z c.ranges.y) (fits_abs _ (omega (arith, c.requires, nat_abs_*ℤ c.args.x c.args.y)))
 
 pub returns : goal.returns
-returns c = rw (to_z-of_z (rw (to_z-of_z c.ranges.x, to_z-of_z c.ranges.y) (fits_abs _ (omega (arith, c.requires, nat_abs_*ℤ c.args.x c.args.y)))), to_z-of_z c.ranges.x, to_z-of_z c.ranges.y) refl
+returns c =
+    let m : SFits w64 (c.args.x *ℤ c.args.y) = fits_abs _ (omega (arith, c.requires, nat_abs_*ℤ c.args.x c.args.y)) in
+    rw (to_z-of_z c.ranges.x, to_z-of_z c.ranges.y, to_z-of_z m) refl

@@ -1,8 +1,5 @@
-use Prim.Native.Nat.{◌≤◌, ◌*◌, ◌-◌}
-use mathlib.Core.Path.{◌≡◌}
-use lib.ListN.{length}
 use native.Mathlib.Omega.{arith}
-use Rattle.neighbours.proofs.DegreeSums.{numbers_to, numbers_start, numbers_next, numbers_low, numbers_end}
+use Rattle.neighbours.proofs.DegreeSums.{numbers_start, numbers_next, numbers_low, numbers_end}
 use Rattle.neighbours.proofs.degrees.numbers_set.Goals as goal
 
 pub loop-j-init : goal.loop-j-init

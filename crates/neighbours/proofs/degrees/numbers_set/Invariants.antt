@@ -1,8 +1,7 @@
 use Prim.Native.Nat.{◌≤◌, ◌*◌, ◌-◌}
 use mathlib.Core.Path.{◌≡◌}
 use lib.ListN.{length}
-use native.Mathlib.Omega.{arith}
-use Rattle.neighbours.proofs.DegreeSums.{numbers_to, numbers_start, numbers_next, numbers_low, numbers_end}
+use Rattle.neighbours.proofs.DegreeSums.{numbers_to}
 use Rattle.neighbours.proofs.degrees.numbers_set.Given as goal
 
 abbrev pub invariant-loop-j : goal.invariant-loop-j

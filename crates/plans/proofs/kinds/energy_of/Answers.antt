@@ -22,12 +22,12 @@ energy-requires-in-Tree c =
 
 pub returns-in-Channels : goal.returns-in-Channels
 returns-in-Channels c =
-    to_z-of_z (sfits_of {w = w64} c.energy.type-inv) ∙ energy_by (channels_is _ _ _ _ c.requires.0 _ c.in-Channels.is) _ _ c.energy.ensures
+    to_z-of_z (sfits_of {w = w64} c.energy.type_inv) ∙ energy_by (channels_is _ _ _ _ c.requires.0 _ c.in-Channels.is) _ _ c.energy.ensures
 
 pub returns-in-Groups : goal.returns-in-Groups
 returns-in-Groups c =
-    to_z-of_z (sfits_of {w = w64} c.energy-in-Groups.type-inv) ∙ energy_by (groups_is _ _ _ _ c.requires.0 _ c.in-Groups.is) _ _ c.energy-in-Groups.ensures
+    to_z-of_z (sfits_of {w = w64} c.energy-in-Groups.type_inv) ∙ energy_by (groups_is _ _ _ _ c.requires.0 _ c.in-Groups.is) _ _ c.energy-in-Groups.ensures
 
 pub returns-in-Tree : goal.returns-in-Tree
 returns-in-Tree c =
-    to_z-of_z (sfits_of {w = w64} c.energy-in-Tree.type-inv) ∙ energy_by (tree_is _ _ _ _ c.requires.0 _ c.in-Tree.is) _ _ c.energy-in-Tree.ensures
+    to_z-of_z (sfits_of {w = w64} c.energy-in-Tree.type_inv) ∙ energy_by (tree_is _ _ _ _ c.requires.0 _ c.in-Tree.is) _ _ c.energy-in-Tree.ensures

@@ -23,7 +23,7 @@ positive-requires c κs = search rules
 
 sub-result : tie.Need-overflow-sub-result
 sub-result c =
-    let f = sfits_of {w = w64} {z = c.positive.result} c.positive.type-inv in
+    let f = sfits_of {w = w64} {z = c.positive.result} c.positive.type_inv in
     rw (to_z-of_z f) (record { sfits = turned c.positive.result f.sfits })
 
 returns : tie.Need-returns
