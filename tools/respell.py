@@ -94,9 +94,16 @@ def kept(text):
     return names
 
 
-def turn_code(text, table, fields):
+ALIAS = re.compile(r"(?m)\buse Rattle\.[^\s;{]+ as ([\w-]+)")
+
+
+def turn_code(text, table, fields, aliases=()):
     def one(m):
         dot = m.start() > 0 and text[m.start() - 1] == "."
+        # behind a module's short name any name may stand
+        if dot and (re.search(r"(?:(?<=[^\w.'-])|^)(\w+)\.$", text[: m.start()]) or [None])[0] in {a + "." for a in aliases}:
+            dot = False
+            return table.get(m[0], m[0])
         # `..` is no dot
         if dot and m.start() > 1 and text[m.start() - 2] == ".":
             dot = False
@@ -127,11 +134,11 @@ def local(text, path):
 
 
 def turn_antt(text, table, fields):
-    lines = []
+    lines, aliases = [], ALIAS.findall(text)
     for line in text.split("\n"):
         m = re.search(r"(^|\s)--( |$)", line)
         at = m.start() if m else len(line)
-        lines.append(turn_code(line[:at], table, fields) + turn_prose(line[at:], table))
+        lines.append(turn_code(line[:at], table, fields, aliases) + turn_prose(line[at:], table))
     return "\n".join(lines)
 
 

@@ -79,9 +79,9 @@ module _ (s : Site) (v : Survey s.meters s.links) where
   -- 01's A with the greatest margin on it
   penalty_small : (k : Kind) → penalty_of s k + most_margin ≤ most_asked k
   unfolding penalty_of most_asked
-  penalty_small (Channels n) = omega (arith, channels-asking.penalty-small s.meters s.links v)
-  penalty_small (Groups m) = omega (arith, groups-asking.penalty-small s.meters s.links v)
-  penalty_small (Tree d) = omega (arith, tree-asking.penalty-small s.meters s.links v)
+  penalty_small (Channels n) = omega (arith, channels-asking.penalty_small s.meters s.links v)
+  penalty_small (Groups m) = omega (arith, groups-asking.penalty_small s.meters s.links v)
+  penalty_small (Tree d) = omega (arith, tree-asking.penalty_small s.meters s.links v)
 
 -- the code takes that
 most_taken : (k : Kind) → most_asked k ≤ most_penalty k

@@ -159,27 +159,27 @@ module _ (s : List ℕ) (a : Ask) (ok : Accepted s a) where
   module _ (cost : ℕ → ℕ) (k : Penalised I cost) where
     -- "energy below the penalty A exactly at the codes of plans"
     pub below_exactly : (x : List ℕ) → Assignment I.bits x → (energy_of I x <ℤ pos I.penalty) ↔ CodesPlan I x
-    below_exactly = best.below-exactly k
+    below_exactly = best.below_exactly k
 
     -- the code of every plan is an assignment, whose energy is the cost of the plan's weight
     pub code_energy : (q : List ℕ) → I.is_plan q ≡ true → Assignment I.bits (I.code_of q) × (energy_of I (I.code_of q) ≡ pos (cost (I.weight q)))
-    code_energy = best.code-energy k
+    code_energy = best.code_energy k
 
     -- where there is a plan, least energy is exactly at the codes of plans of least weight,
     pub least_exactly : (q : List ℕ) → I.is_plan q ≡ true → (x : List ℕ) → Assignment I.bits x → LeastEnergy I x ↔ CodesLeast I x
-    least_exactly = best.least-exactly k
+    least_exactly = best.least_exactly k
 
     -- it is the cost of the weight of such a plan,
     pub least_weight : (q : List ℕ) → LeastPlan I q → (x : List ℕ) → Assignment I.bits x → LeastEnergy I x → energy_of I x ≡ pos (cost (I.weight q))
-    least_weight = best.least-weight k
+    least_weight = best.least_weight k
 
     -- which the code of that plan has,
     pub best_least : (q : List ℕ) → LeastPlan I q → Assignment I.bits (I.code_of q) × LeastEnergy I (I.code_of q) × (energy_of I (I.code_of q) ≡ pos (cost (I.weight q)))
-    best_least q b = ((code_energy q b.ok).0, best.best-least k q b, (code_energy q b.ok).1)
+    best_least q b = ((code_energy q b.ok).0, best.best_least k q b, (code_energy q b.ok).1)
 
     -- and there is a plan of least weight
     pub best_exists : (q : List ℕ) → I.is_plan q ≡ true → (r : List ℕ) × LeastPlan I r
-    best_exists = best.best-exists k
+    best_exists = best.best_exists k
 
     -- "with none, nothing lies below A"
     pub none_below : ((q : List ℕ) → I.is_plan q ≡ true → ⊥) → (x : List ℕ) → Assignment I.bits x → pos I.penalty ≤ℤ energy_of I x
@@ -218,25 +218,25 @@ module _ (s : List ℕ) (a : Ask) (is : a.kind ≡ 1) (ok : Accepted s a) where
   unfolding instance_by
   channels_is = channels_asked.is
 
-  channels_limits : channels-formula.withinLimits a.parameter ≡ true
+  channels_limits : channels-formula.within_limits a.parameter ≡ true
   unfolding limits_hold
   channels_limits = channels_asked.limits
 
   channels_heavy : Heavy channels_A (meters s) (links s)
   unfolding penalty_of
-  channels_heavy m l h = omega (arith, channels-asking.penalty-heavy (meters s) (links s) m l h, channels_asked.from)
+  channels_heavy m l h = omega (arith, channels-asking.penalty_heavy (meters s) (links s) m l h, channels_asked.from)
 
   -- "least energy exactly at the codes of plans of least clash weight"
   pub channels_least : (x : List ℕ) → Assignment C.bits x → LeastEnergy C x ↔ CodesLeast C x
-  channels_least = subst (λ (I : Instance). (x : List ℕ) → Assignment I.bits x → LeastEnergy I x ↔ CodesLeast I x) (sym channels_is) (channels.least-exactly (meters s) a.parameter (links s) channels_asked.survey channels_limits channels_A channels_heavy)
+  channels_least = subst (λ (I : Instance). (x : List ℕ) → Assignment I.bits x → LeastEnergy I x ↔ CodesLeast I x) (sym channels_is) (channels.least_exactly (meters s) a.parameter (links s) channels_asked.survey channels_limits channels_A channels_heavy)
 
   -- and its energy is that weight
   pub channels_weight : (x : List ℕ) (c : CodesLeast C x) → energy_of C x ≡ pos (C.weight c.plan)
-  channels_weight = subst (λ (I : Instance). (x : List ℕ) (c : CodesLeast I x) → energy_of I x ≡ pos (I.weight c.plan)) (sym channels_is) (channels.least-weight (meters s) a.parameter (links s) channels_asked.survey channels_limits channels_A)
+  channels_weight = subst (λ (I : Instance). (x : List ℕ) (c : CodesLeast I x) → energy_of I x ≡ pos (I.weight c.plan)) (sym channels_is) (channels.least_weight (meters s) a.parameter (links s) channels_asked.survey channels_limits channels_A)
 
   -- such an assignment exists
   pub channels_exists : (x : List ℕ) × Assignment C.bits x × LeastEnergy C x × CodesLeast C x
-  channels_exists = subst (λ (I : Instance). (x : List ℕ) × Assignment I.bits x × LeastEnergy I x × CodesLeast I x) (sym channels_is) (channels.least-exists (meters s) a.parameter (links s) channels_asked.survey channels_limits channels_A channels_heavy)
+  channels_exists = subst (λ (I : Instance). (x : List ℕ) × Assignment I.bits x × LeastEnergy I x × CodesLeast I x) (sym channels_is) (channels.least_exists (meters s) a.parameter (links s) channels_asked.survey channels_limits channels_A channels_heavy)
 
   -- "every assignment decodes to a plan no heavier than its energy", and by 1 lighter for each meter repaired
   pub channels_lighter : (x r : List ℕ) → Assignment C.bits x → length r ≡ C.plan_bytes
@@ -246,7 +246,7 @@ module _ (s : List ℕ) (a : Ask) (is : a.kind ≡ 1) (ok : Accepted s a) where
   unfolding decode_answer_in decode_after_in unless_refused
   channels_lighter x r b h =
       let l = subst (λ (I : Instance). (y : List ℕ) → Assignment I.bits y → (I.is_plan (I.decoded y) ≡ true) × (pos (I.weight (I.decoded y) + I.repaired y) ≤ℤ energy_of I y) × (I.decodes y ≡ true)) (sym channels_is)
-      (λ y e. let d = channels.decodes-lighter (meters s) a.parameter (links s) channels_asked.survey channels_limits channels_A channels_heavy y e in (d.0, d.1, refl)) x b in
+      (λ y e. let d = channels.decodes_lighter (meters s) a.parameter (links s) channels_asked.survey channels_limits channels_A channels_heavy y e in (d.0, d.1, refl)) x b in
       rw (decode_accepts s a ok x r b h l.2) (l.0, refl, l.1)
 
 -- ---- demand 3, groups: kind 2
@@ -262,14 +262,14 @@ module _ (s : List ℕ) (a : Ask) (is : a.kind ≡ 2) (ok : Accepted s a) where
   unfolding instance_by
   groups_is = groups_asked.is
 
-  groups_limits : groups-formula.withinLimits a.parameter ≡ true
+  groups_limits : groups-formula.within_limits a.parameter ≡ true
   unfolding limits_hold
   groups_limits = groups_asked.limits
 
   -- nothing is repaired, and the code of a plan costs twice its cut weight: all that is said above of such a kind holds
   pub groups_penalised : Penalised G (λ w. 2 * w)
   unfolding penalty_of
-  groups_penalised = subst (λ (I : Instance). Penalised I (λ w. 2 * w)) (sym groups_is) (groups.penalised (meters s) a.parameter (links s) groups_asked.survey groups_limits (penalty_asked (site_in s) a) (omega (arith, groups-asking.penalty-heavy (links s), groups_asked.from)))
+  groups_penalised = subst (λ (I : Instance). Penalised I (λ w. 2 * w)) (sym groups_is) (groups.penalised (meters s) a.parameter (links s) groups_asked.survey groups_limits (penalty_asked (site_in s) a) (omega (arith, groups-asking.penalty_heavy (links s), groups_asked.from)))
 
   -- "energy below the penalty A exactly at the codes of plans"
   pub groups_below : (x : List ℕ) → Assignment G.bits x → (energy_of G x <ℤ pos G.penalty) ↔ CodesPlan G x
@@ -285,7 +285,7 @@ module _ (s : List ℕ) (a : Ask) (is : a.kind ≡ 2) (ok : Accepted s a) where
 
   -- "with N not divisible by m no plan exists", and else there is one
   pub groups_divided : (meters s % a.parameter ≡ 0) ↔ ((q : List ℕ) × (G.is_plan q ≡ true))
-  groups_divided = subst (λ (I : Instance). (meters s % a.parameter ≡ 0) ↔ ((q : List ℕ) × (I.is_plan q ≡ true))) (sym groups_is) (groups.exists-exactly (meters s) a.parameter (links s) groups_asked.survey groups_limits)
+  groups_divided = subst (λ (I : Instance). (meters s % a.parameter ≡ 0) ↔ ((q : List ℕ) × (I.is_plan q ≡ true))) (sym groups_is) (groups.exists_exactly (meters s) a.parameter (links s) groups_asked.survey groups_limits)
 
   -- "with none, nothing lies below A"
   pub groups_none : ((q : List ℕ) → G.is_plan q ≡ true → ⊥) → (x : List ℕ) → Assignment G.bits x → pos G.penalty ≤ℤ energy_of G x
@@ -308,13 +308,13 @@ module _ (s : List ℕ) (a : Ask) (is : a.kind ≡ 3) (ok : Accepted s a) where
   unfolding instance_by
   tree_is = tree_asked.is
 
-  tree_limits : tree-formula.withinLimits (meters s) d ≡ true
+  tree_limits : tree-formula.within_limits (meters s) d ≡ true
   unfolding limits_hold
   tree_limits = tree_asked.limits
 
   tree_heavy : total (links s) < penalty_asked (site_in s) a
   unfolding penalty_of
-  tree_heavy = omega (arith, tree-asking.penalty-heavy (links s), tree_asked.from)
+  tree_heavy = omega (arith, tree-asking.penalty_heavy (links s), tree_asked.from)
 
   -- nothing is repaired, and the code of a plan costs the tree's weight: all that is said above of such a kind holds
   pub tree_penalised : Penalised T (λ w. w)
@@ -326,31 +326,31 @@ module _ (s : List ℕ) (a : Ask) (is : a.kind ≡ 3) (ok : Accepted s a) where
 
   -- "every spanning tree has a root with no depth over D"
   pub tree_root : (t : List Link) → Spanning (meters s) (links s) t → (q : List ℕ) × (is_rooted (meters s) (deepest (meters s)) (links s) q ≡ true) × (tree_links q (links s) ≡ t)
-  tree_root = tree.root-exists (meters s) d (links s) tree_asked.survey tree_limits
+  tree_root = tree.root_exists (meters s) d (links s) tree_asked.survey tree_limits
 
   -- a plan's links are a spanning tree within the neighbour limit, of the same weight
   pub tree_spans : (q : List ℕ) → T.is_plan q ≡ true → Spanning (meters s) (links s) (tree_links q (links s)) × WithinLimit (meters s) d (tree_links q (links s)) × (total (tree_links q (links s)) ≡ T.weight q)
-  tree_spans = subst (λ (I : Instance). (q : List ℕ) → I.is_plan q ≡ true → Spanning (meters s) (links s) (tree_links q (links s)) × WithinLimit (meters s) d (tree_links q (links s)) × (total (tree_links q (links s)) ≡ I.weight q)) (sym tree_is) (tree.plan-tree (meters s) d (links s) tree_asked.survey tree_limits)
+  tree_spans = subst (λ (I : Instance). (q : List ℕ) → I.is_plan q ≡ true → Spanning (meters s) (links s) (tree_links q (links s)) × WithinLimit (meters s) d (tree_links q (links s)) × (total (tree_links q (links s)) ≡ I.weight q)) (sym tree_is) (tree.plan_tree (meters s) d (links s) tree_asked.survey tree_limits)
 
   -- and every spanning tree within the limit is the links of some plan, of the same weight
   pub tree_planned : (t : List Link) → Spanning (meters s) (links s) t → WithinLimit (meters s) d t → (q : List ℕ) × (T.is_plan q ≡ true) × (tree_links q (links s) ≡ t) × (T.weight q ≡ total t)
-  tree_planned = subst (λ (I : Instance). (t : List Link) → Spanning (meters s) (links s) t → WithinLimit (meters s) d t → (q : List ℕ) × (I.is_plan q ≡ true) × (tree_links q (links s) ≡ t) × (I.weight q ≡ total t)) (sym tree_is) (tree.tree-plan (meters s) d (links s) tree_asked.survey tree_limits)
+  tree_planned = subst (λ (I : Instance). (t : List Link) → Spanning (meters s) (links s) t → WithinLimit (meters s) d t → (q : List ℕ) × (I.is_plan q ≡ true) × (tree_links q (links s) ≡ t) × (I.weight q ≡ total t)) (sym tree_is) (tree.tree_plan (meters s) d (links s) tree_asked.survey tree_limits)
 
   -- "the least energy is that .. of the best spanning tree within the neighbour limit": where there is one within the limit, least energy is exactly at the codes of plans whose links are a best one, whichever meter is the root,
   pub tree_least : (t : List Link) → Spanning (meters s) (links s) t → WithinLimit (meters s) d t → (x : List ℕ) → Assignment T.bits x → LeastEnergy T x ↔ CodesBest (meters s) d (links s) x
-  tree_least t p w = subst (λ (I : Instance). (x : List ℕ) → Assignment I.bits x → LeastEnergy I x ↔ CodesBest (meters s) d (links s) x) (sym tree_is) (tree.least-exactly (meters s) d (links s) tree_asked.survey tree_limits (penalty_asked (site_in s) a) tree_heavy t p w)
+  tree_least t p w = subst (λ (I : Instance). (x : List ℕ) → Assignment I.bits x → LeastEnergy I x ↔ CodesBest (meters s) d (links s) x) (sym tree_is) (tree.least_exactly (meters s) d (links s) tree_asked.survey tree_limits (penalty_asked (site_in s) a) tree_heavy t p w)
 
   -- it is the weight of a best one,
   pub tree_weight_fact : (t : List Link) → BestTree (meters s) d (links s) t → (x : List ℕ) → Assignment T.bits x → LeastEnergy T x → energy_of T x ≡ pos (total t)
-  tree_weight_fact t b = subst (λ (I : Instance). (x : List ℕ) → Assignment I.bits x → LeastEnergy I x → energy_of I x ≡ pos (total t)) (sym tree_is) (tree.least-weight (meters s) d (links s) tree_asked.survey tree_limits (penalty_asked (site_in s) a) tree_heavy t b)
+  tree_weight_fact t b = subst (λ (I : Instance). (x : List ℕ) → Assignment I.bits x → LeastEnergy I x → energy_of I x ≡ pos (total t)) (sym tree_is) (tree.least_weight (meters s) d (links s) tree_asked.survey tree_limits (penalty_asked (site_in s) a) tree_heavy t b)
 
   -- which some assignment has,
   pub tree_reached : (t : List Link) → BestTree (meters s) d (links s) t → (x : List ℕ) × Assignment T.bits x × LeastEnergy T x × (energy_of T x ≡ pos (total t))
-  tree_reached t b = subst (λ (I : Instance). (x : List ℕ) × Assignment I.bits x × LeastEnergy I x × (energy_of I x ≡ pos (total t))) (sym tree_is) (tree.best-least (meters s) d (links s) tree_asked.survey tree_limits (penalty_asked (site_in s) a) tree_heavy t b)
+  tree_reached t b = subst (λ (I : Instance). (x : List ℕ) × Assignment I.bits x × LeastEnergy I x × (energy_of I x ≡ pos (total t))) (sym tree_is) (tree.best_least (meters s) d (links s) tree_asked.survey tree_limits (penalty_asked (site_in s) a) tree_heavy t b)
 
   -- and there is a best one
   pub tree_exists : (t : List Link) → Spanning (meters s) (links s) t → WithinLimit (meters s) d t → (u : List Link) × BestTree (meters s) d (links s) u
-  tree_exists = tree.best-exists (meters s) d (links s) tree_asked.survey tree_limits
+  tree_exists = tree.best_exists (meters s) d (links s) tree_asked.survey tree_limits
 
   -- "with none, nothing lies below A"
   pub tree_none : ((t : List Link) → Spanning (meters s) (links s) t → WithinLimit (meters s) d t → ⊥) → (x : List ℕ) → Assignment T.bits x → pos T.penalty ≤ℤ energy_of T x

@@ -104,8 +104,8 @@ module _ (pr : Problem) (us vs ws : List ℕ) (r : Ready pr us vs ws) where
     tree_penalty = tree_most pr.penalty pr.kind d e r.small
 
     -- there are as many links as ends
-    pub tree_bits : (instance_for pr us vs ws).bits ≡ tree-formula.bitCount N (length us) d
-    tree_bits = ap (λ (I : Instance). I.bits) tree_is ∙ ap (λ (M : ℕ). tree-formula.bitCount N M d) (length_links_of us vs ws)
+    pub tree_bits : (instance_for pr us vs ws).bits ≡ tree-formula.bit_count N (length us) d
+    tree_bits = ap (λ (I : Instance). I.bits) tree_is ∙ ap (λ (M : ℕ). tree-formula.bit_count N M d) (length_links_of us vs ws)
 
 -- ---- an instance I that is that of a kind, J
 

@@ -137,19 +137,19 @@ module _ (N : ℕ) (ls : List Link) (s : Survey N ls) (A : ℕ) where
 
   -- a plan that no plan is lighter than, and the least energy
   least_shown : (k : Kind) (q : List ℕ) (w : ℕ) → limits_hold N k ≡ true → penalty_of site k ≤ A → (instance_by A site k).is_plan q ≡ true → (instance_by A site k).weight q ≡ w → lightest N ls k w ≡ true → Means (instance_by A site k) (lines.least q w)
-  unfolding limits_hold penalty_of instance_by lightest tree-plans.treeWeight
+  unfolding limits_hold penalty_of instance_by lightest tree-plans.tree_weight
   least_shown (Channels n) q w l a e h t = absurd (false≢true t)
   least_shown (Groups m) q w l a e h t = absurd (false≢true t)
   least_shown (Tree d) q w l a e h t =
       let best : LeastPlan (instance_by A site (Tree d)) q = record { ok = e; least = λ r f. omega (arith, h, none_lighter N d ls w s.each t r f) } in
-      let b = tree.best-least N d ls s l A (omega (arith, tree-asking.penalty-heavy ls, a)) (tree_links q ls) (least_best N d ls s q best) in
+      let b = tree.best_least N d ls s l A (omega (arith, tree-asking.penalty_heavy ls, a)) (tree_links q ls) (least_best N d ls s q best) in
       (e, h, (b.0, b.1, b.2, b.3 ∙ ap pos h))
 
   below_shown : (k : Kind) → limits_hold N k ≡ true → penalty_of site k ≤ A → unplanned N ls k ≡ true → Means (instance_by A site k) lines.nothing_below
   unfolding limits_hold penalty_of instance_by unplanned
   below_shown (Channels n) l a t = absurd (false≢true t)
   below_shown (Groups m) l a t = absurd (false≢true t)
-  below_shown (Tree d) l a t = tree.none_below N d ls s l A (omega (arith, tree-asking.penalty-heavy ls, a)) (λ T p w. let q = tree.tree-plan N d ls s l T p w in none_plan N d ls s.each t q.0 q.1)
+  below_shown (Tree d) l a t = tree.none_below N d ls s l A (omega (arith, tree-asking.penalty_heavy ls, a)) (λ T p w. let q = tree.tree_plan N d ls s l T p w in none_plan N d ls s.each t q.0 q.1)
 
   listed_shown : (k : Kind) (qs : List (List ℕ)) → listed N ls k qs ≡ true → Means (instance_by A site k) (lines.just qs)
   unfolding listed instance_by
@@ -160,7 +160,7 @@ module _ (N : ℕ) (ls : List Link) (s : Survey N ls) (A : ℕ) where
   none_shown : (k : Kind) → limits_hold N k ≡ true → undivided N k ≡ true → Means (instance_by A site k) lines.no_plan_fact
   unfolding limits_hold penalty_of instance_by undivided
   none_shown (Channels n) l t q e = absurd (false≢true t)
-  none_shown (Groups m) l t q e = eqb-false (N % m) 0 (not-true (eqb (N % m) 0) t) ((groups.exists-exactly N m ls s l).1 (q, e))
+  none_shown (Groups m) l t q e = eqb-false (N % m) 0 (not-true (eqb (N % m) 0) t) ((groups.exists_exactly N m ls s l).1 (q, e))
   none_shown (Tree d) l t q e = absurd (false≢true t)
 
   -- coding what is no plan gives 12
@@ -211,7 +211,7 @@ passes e =
 
 -- computed
 table_passes : all passes table ≡ true
-unfolding table passes holds same_int same_ints lightest unplanned among listed undivided all alike from every any tried options no_lighter no_plan kind_of limits_hold penalty_of penalty_asked instance_by instance_of link_ok ascending ascending_from before total is_at has_ends present sum_to sum_of greatest least_at lowest same differ nth row_of bit_at set_at one_hots are_choices code c-formula.withinLimits c-formula.load c-formula.penalty c-formula.clashTerms c-formula.formula c-plans.is_plan c-plans.code_of c-plans.clashWeight c-repair.bears c-repair.heard c-repair.quietest c-repair.repairOne c-repair.repairBy c-repair.decoded c-repair.repaired g-formula.withinLimits g-formula.penalty g-formula.sizeTerms g-formula.cutTerms g-formula.formula tree-formula.withinLimits tree-formula.penalty tree-formula.formulaTo tree-plans.fewNeighbours tree-plans.is_plan tree-plans.treeWeight tree-plans.depthChoices tree-plans.arcChoice tree-plans.arcChoices tree-plans.countChoices tree-plans.code_of deepest depth_of at_most linked parent_linked roots_of is_rooted neighbours is_used tree_links arcs arcs_from depth_terms entry_terms end_terms weight_terms count_terms degree_terms
+unfolding table passes holds same_int same_ints lightest unplanned among listed undivided all alike from every any tried options no_lighter no_plan kind_of limits_hold penalty_of penalty_asked instance_by instance_of link_ok ascending ascending_from before total is_at has_ends present sum_to sum_of greatest least_at lowest same differ nth row_of bit_at set_at one_hots are_choices code c-formula.within_limits c-formula.load c-formula.penalty c-formula.clash_terms c-formula.formula c-plans.is_plan c-plans.code_of c-plans.clash_weight c-repair.bears c-repair.heard c-repair.quietest c-repair.repair_one c-repair.repair_by c-repair.decoded c-repair.repaired g-formula.within_limits g-formula.penalty g-formula.size_terms g-formula.cut_terms g-formula.formula tree-formula.within_limits tree-formula.penalty tree-formula.formula_to tree-plans.few_neighbours tree-plans.is_plan tree-plans.tree_weight tree-plans.depth_choices tree-plans.arc_choice tree-plans.arc_choices tree-plans.count_choices tree-plans.code_of deepest depth_of at_most linked parent_linked roots_of is_rooted neighbours is_used tree_links arcs arcs_from depth_terms entry_terms end_terms weight_terms count_terms degree_terms
 table_passes = refl
 
 -- one entry

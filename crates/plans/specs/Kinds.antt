@@ -27,9 +27,9 @@ kind_of a = cond (eqb a.kind 1) (Channels a.parameter) (cond (eqb a.kind 2) (Gro
 
 -- "Each kind's limits .. belong to that kind"
 unfoldable pub limits_hold : ℕ → Kind → Bool
-limits_hold N (Channels n) = channels.withinLimits n
-limits_hold N (Groups m) = groups.withinLimits m
-limits_hold N (Tree d) = tree.withinLimits N d
+limits_hold N (Channels n) = channels.within_limits n
+limits_hold N (Groups m) = groups.within_limits m
+limits_hold N (Tree d) = tree.within_limits N d
 
 -- 01's A
 unfoldable pub penalty_of : Site → Kind → ℕ

@@ -27,7 +27,7 @@ constant_small N A n a = mul-le-mul {n₂ = 20000000} {m₂ = 97} a (omega arith
 -- ---- fill_row: k is the bit count that the code computes
 
 pub front_top : (k T i : ℕ) (r : List ℤ) → k ≡ T → T ≤ i + length r → i < T → i + length (take (k - i) r) ≡ T
-front_top k T i r e h g = rw e (action.front-top r T i h g)
+front_top k T i r e h g = rw e (action.front_top r T i h g)
 
 pub front_done : (k T i : ℕ) (r s t : List ℤ) → k ≡ T → s ≡ t → s ++ drop (k - i) r ≡ t ++ drop (T - i) r
 front_done k T i r s t e d = rw (e, d)

@@ -53,11 +53,11 @@ module _ (N d : ℕ) (ls : List Link) (s : Survey N ls) (w : within_limits N d �
 
   -- a plan's links are a spanning tree within the limit, of the same weight
   pub plan_tree : (p : List ℕ) → is_plan N d ls p ≡ true → Spanning N ls (tree_links p ls) × WithinLimit N d (tree_links p ls) × (total (tree_links p ls) ≡ tree_weight ls p)
-  plan_tree = facts.plan-spanning N d ls s
+  plan_tree = facts.plan_spanning N d ls s
 
   -- every spanning tree within the limit is the links of some plan, of the same weight
   pub tree_plan : (T : List Link) → Spanning N ls T → WithinLimit N d T → (p : List ℕ) × (is_plan N d ls p ≡ true) × (tree_links p ls ≡ T) × (tree_weight ls p ≡ total T)
-  tree_plan = facts.spanning-plan N d ls s
+  tree_plan = facts.spanning_plan N d ls s
 
   module _ (A : ℕ) where
     abbrev I : Instance
@@ -108,9 +108,9 @@ module _ (N d : ℕ) (ls : List Link) (s : Survey N ls) (w : within_limits N d �
       pub least_exactly : (T : List Link) → Spanning N ls T → WithinLimit N d T → (x : List ℕ) → Assignment I.bits x → LeastEnergy I x ↔ CodesBest N d ls x
       least_exactly T t u x a =
           let p = tree_plan T t u in
-          let i = plans.least-exactly penalised p.0 p.1 x a in (
-            λ h. let c = i.0 h in record { plan = c.plan; ok = c.best.ok; best = facts.least-best N d ls s c.plan c.best; codes = c.codes },
-            λ c. i.1 (record { plan = c.plan; best = facts.best-least N d ls s c.plan c.ok c.best; codes = c.codes }),
+          let i = plans.least_exactly penalised p.0 p.1 x a in (
+            λ h. let c = i.0 h in record { plan = c.plan; ok = c.best.ok; best = facts.least_best N d ls s c.plan c.best; codes = c.codes },
+            λ c. i.1 (record { plan = c.plan; best = facts.best_least N d ls s c.plan c.ok c.best; codes = c.codes }),
           )
 
       -- "the least energy is that .. of the best spanning tree within the neighbour limit": where there is a best one, every assignment of least energy has its weight for energy
@@ -119,7 +119,7 @@ module _ (N d : ℕ) (ls : List Link) (s : Survey N ls) (w : within_limits N d �
       least_weight T b x a h =
           let c = (least_exactly T b.spanning b.within x a).0 h in
           let e : tree_weight ls c.plan ≡ total T = omega (arith, c.best.least T b.spanning b.within, b.least (tree_links c.plan ls) c.best.spanning c.best.within) in
-          plans.coded-energy penalised x a (record { plan = c.plan; ok = c.ok; codes = c.codes }) ∙ ap pos e
+          plans.coded_energy penalised x a (record { plan = c.plan; ok = c.ok; codes = c.codes }) ∙ ap pos e
 
       -- and there is such an assignment: the code of a plan with these links
       pub best_least : (T : List Link) → BestTree N d ls T → (x : List ℕ) × Assignment I.bits x × LeastEnergy I x × (energy_of I x ≡ pos (total T))
@@ -137,5 +137,5 @@ module _ (N d : ℕ) (ls : List Link) (s : Survey N ls) (w : within_limits N d �
   pub best_exists : (T : List Link) → Spanning N ls T → WithinLimit N d T → (S : List Link) × BestTree N d ls S
   best_exists T t u =
       let p = tree_plan T t u in
-      let q = plans.best-exists (penalised (suc (total ls)) (omega arith)) p.0 p.1 in
-      (tree_links q.0 ls, facts.least-best N d ls s q.0 q.1)
+      let q = plans.best_exists (penalised (suc (total ls)) (omega arith)) p.0 p.1 in
+      (tree_links q.0 ls, facts.least_best N d ls s q.0 q.1)

@@ -70,9 +70,8 @@ unfolding options
 none_option [] v = mathlib.Core.List.Memᴰ.head refl
 none_option (l ∷ ls) v = later_option l ls v 0 (none_option ls v)
 
--- a linked neighbour, where no link joins a meter to itself
-linked_option : (N : ℕ) (ls : List Link) → all (link_ok N) ls ≡ true → (v w : ℕ) → Linked v w ls → Memᴰ w (options ls v)
-linked_option N _ o v w (here {l = l} {ls = ls} j) = pick j
+linked_option_each : (N v w : ℕ) (ls : List Link) → all (link_ok N) ls ≡ true → Linked v w ls → Memᴰ w (options ls v)
+linked_option_each N v w _ o (here {l = l} {ls = ls} j) = pick j
   where
     f : LinkOf N l
     f = link_of N l (all_head (link_ok N) l ls o)
@@ -80,7 +79,11 @@ linked_option N _ o v w (here {l = l} {ls = ls} j) = pick j
     pick : Joins l v w → Memᴰ w (options (l ∷ ls) v)
     pick (along e g) = rw (first_option l ls v e) (mathlib.Core.List.Memᴰ.head (sym g))
     pick (back e g) = rw (second_option l ls v (λ h. omega (arith, f.ordered)) g) (mathlib.Core.List.Memᴰ.head (sym e))
-linked_option N _ o v w (there {l = l} {ls = ls} k) = later_option l ls v w (linked_option N ls (all_tail (link_ok N) l ls o) v w k)
+linked_option_each N v w _ o (there {l = l} {ls = ls} k) = later_option l ls v w (linked_option_each N v w ls (all_tail (link_ok N) l ls o) k)
+
+-- a linked neighbour, where no link joins a meter to itself
+linked_option : (N : ℕ) (ls : List Link) → all (link_ok N) ls ≡ true → (v w : ℕ) → Linked v w ls → Memᴰ w (options ls v)
+linked_option N ls o v w k = linked_option_each N v w ls o k
 
 parent_option : (N D : ℕ) (ls : List Link) (p : List ℕ) → all (link_ok N) ls ≡ true → Shape N D ls p → (v : ℕ) → 1 ≤ v → v ≤ N → Memᴰ (nth p v) (options ls v)
 parent_option N D ls p o t v a b = elim (ℕ_discrete (nth p v) 0) [ yes e ↦ rw e (none_option ls v) | no n ↦ linked_option N ls o v (nth p v) (t.linked v a b n) ]

@@ -12,7 +12,7 @@ pub returns-then-broken_choices-ne0 : goal.returns-then-broken_choices-ne0
 returns-then-broken_choices-ne0 c =
     let p = c.requires in
     let none = choices_none _ _ _ _ _ p.0 _ p.1 _ (rw c.deepest-deepest.ensures at c.broken_choices.ensures.0) c.if-broken_choices-ne0.true _ in
-    (λ A. (none A).0, λ A. (none A).1)
+    record { answer = λ A. (none A).0; plan = λ A. (none A).1 }
 
 pub slice_bounds-used-end : goal.slice_bounds-used-end
 slice_bounds-used-end c = arrays_few _ _ _ _ c.requires.0.arrays

@@ -13,7 +13,7 @@ pub returns-then-broken_arcs-ne0 : goal.returns-then-broken_arcs-ne0
 returns-then-broken_arcs-ne0 c =
     let p = c.requires in
     let none = arcs_none _ _ _ _ _ p.0 _ p.2 _ (rw p.1 at (c.broken_arcs.ensures.0 c.args.ws.now)) c.if-broken_arcs-ne0.true _ in
-    (λ A. (none A).0, λ A. (none A).1)
+    record { answer = λ A. (none A).0; plan = λ A. (none A).1 }
 
 pub read_parents-requires : goal.read_parents-requires
 read_parents-requires c =
@@ -23,10 +23,10 @@ read_parents-requires c =
 pub tree_weight-weight-requires : goal.tree_weight-weight-requires
 tree_weight-weight-requires c =
     let p = c.requires in
-    arrays_plan _ _ _ _ p.0.arrays _ (c.read_parents.auto.1.1.1.1.1.1.0 ∙ p.3)
+    arrays_plan _ _ _ _ p.0.arrays _ (c.read_parents.auto.plan ∙ p.3)
 
 pub returns : goal.returns
 returns c =
     let p = c.requires in
     let read = plan_read _ _ _ _ _ p.0 _ p.2 (rw p.1 at p.5) _ (rw p.1 at (c.broken_arcs.ensures.0 c.args.ws.now)) c.if-broken_arcs-ne0.false _ _ _ (rw p.1 at (c.read_parents.ensures c.args.ws.now)) c.tree_weight-weight.ensures in
-    (λ A. (read A).0, λ A. (read A).1)
+    record { answer = λ A. (read A).0; plan = λ A. (read A).1 }

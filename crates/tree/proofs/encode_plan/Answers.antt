@@ -17,19 +17,19 @@ pub is_plan-requires : goal.is_plan-requires
 is_plan-requires c = let p = c.requires in (p.0, c.deepest-deepest.ensures, length-take-le _ _ (omega (arith, p.0.arrays.survey.meters_high)))
 
 pub returns-then-not-is_plan : goal.returns-then-not-is_plan
-returns-then-not-is_plan c = coded_none _ _ _ _ _ _ c.is_plan.ensures.plan (not-true _ c.if-not-is_plan.true) _
+returns-then-not-is_plan c = coded_none _ _ _ _ _ _ c.is_plan.ensures.plan c.if-not-is_plan.true _
 
 pub slice_bounds-depths-end-2 : goal.slice_bounds-depths-end-2
-slice_bounds-depths-end-2 c = front_room _ _ _ (c.is_plan.ensures.depths (not-false _ c.if-not-is_plan.false)) _
+slice_bounds-depths-end-2 c = front_room _ _ _ (c.is_plan.ensures.depths c.if-not-is_plan.false) _
 
 pub slice_bounds-encode-end : goal.slice_bounds-encode-end
-slice_bounds-encode-end c = front_length _ _ _ (c.is_plan.ensures.depths (not-false _ c.if-not-is_plan.false)) _
+slice_bounds-encode-end c = front_length _ _ _ (c.is_plan.ensures.depths c.if-not-is_plan.false) _
 
 pub encode-requires : goal.encode-requires
 encode-requires c =
     let p = c.requires in
-    let t = not-false _ c.if-not-is_plan.false in
+    let t = c.if-not-is_plan.false in
     (p.0, c.deepest-deepest.ensures, (p.0.weights, sym (c.is_plan.ensures.plan p.0.weights) ∙ t), front_is _ _ _ (c.is_plan.ensures.depths t) _, p.1)
 
 pub returns : goal.returns
-returns c = coded_plan _ _ _ _ _ _ c.is_plan.ensures.plan (not-false _ c.if-not-is_plan.false) _ _ c.encode.ensures
+returns c = coded_plan _ _ _ _ _ _ c.is_plan.ensures.plan c.if-not-is_plan.false _ _ c.encode.ensures

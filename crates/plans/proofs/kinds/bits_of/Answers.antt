@@ -7,15 +7,15 @@ use Rattle.plans.proofs.kinds.bits_of.Goals as goal
 
 pub bits-requires : goal.bits-requires
 unfolding limits_hold
-bits-requires c = (c.requires.1, channels.limit-high _ (rw c.in-Channels.is at c.requires.0))
+bits-requires c = (c.requires.1, channels.limit_high _ (rw c.in-Channels.is at c.requires.0))
 
 pub bits-requires-in-Groups : goal.bits-requires-in-Groups
 unfolding limits_hold
-bits-requires-in-Groups c = (c.requires.1, groups.limit-high _ (rw c.in-Groups.is at c.requires.0))
+bits-requires-in-Groups c = (c.requires.1, groups.limit_high _ (rw c.in-Groups.is at c.requires.0))
 
 pub bits-requires-in-Tree : goal.bits-requires-in-Tree
 unfolding limits_hold
-bits-requires-in-Tree c = (c.requires.1, c.requires.2, tree.limit-high _ _ (rw c.in-Tree.is at c.requires.0))
+bits-requires-in-Tree c = (c.requires.1, c.requires.2, tree.limit_high _ _ (rw c.in-Tree.is at c.requires.0))
 
 pub returns-in-Channels : goal.returns-in-Channels
 unfolding instance_by

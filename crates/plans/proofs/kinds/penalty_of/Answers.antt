@@ -5,10 +5,10 @@ use borrow.Author.Rules.{rules}
 use Rattle.plans.proofs.kinds.penalty_of.Goals as goal
 
 pub penalty_of-requires-in-Groups : goal.penalty_of-requires-in-Groups
-penalty_of-requires-in-Groups c = groups.weights-few _ _ _ _ c.requires
+penalty_of-requires-in-Groups c = groups.weights_few _ _ _ _ c.requires
 
 pub penalty_of-requires-in-Tree : goal.penalty_of-requires-in-Tree
-penalty_of-requires-in-Tree c = (tree.weights-few _ _ _ _ c.requires).0
+penalty_of-requires-in-Tree c = (tree.weights_few _ _ _ _ c.requires).0
 
 pub returns-in-Channels : goal.returns-in-Channels
 unfolding penalty_of

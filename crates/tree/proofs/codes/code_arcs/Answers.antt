@@ -13,4 +13,4 @@ encode_part-requires c =
     code_asks _ _ _ (c.fill_arcs.ensures []) _ size (λ k h. c.requires.by_index.0 [] k) _ _ c.requires.by_index.1
 
 pub returns : goal.returns
-returns c = (c.fill_arcs.ensures, λ ws. code_given _ _ _ (c.fill_arcs.ensures ws) _ _ _ c.encode_part.ensures)
+returns c = record { choices = c.fill_arcs.ensures; bits = λ ws. code_given _ _ _ (c.fill_arcs.ensures ws) _ _ _ c.encode_part.ensures }

@@ -13,4 +13,4 @@ encode_part-requires c =
     code_asks _ _ _ c.fill_counts.ensures _ (counts_length _ _) c.requires.2 _ _ c.requires.3
 
 pub returns : goal.returns
-returns c = (c.fill_counts.ensures, code_given _ _ _ c.fill_counts.ensures _ _ _ c.encode_part.ensures)
+returns c = record { choices = c.fill_counts.ensures; bits = code_given _ _ _ c.fill_counts.ensures _ _ _ c.encode_part.ensures }

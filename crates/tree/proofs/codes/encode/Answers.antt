@@ -43,10 +43,10 @@ pub code_arcs-requires : goal.code_arcs-requires
 code_arcs-requires c =
     let p = c.requires in
     let size = plan_length _ _ _ _ _ p.1 p.2.1 in
-    rw (c.depths_end-first.ensures.0, size) (
-      (p.3, p.0, length-take-le _ _ (omega (arith, few_links _ _ _ p.0))),
-      (λ ws k. arcs_in _ _ _ _ _ p.1 p.2.1 _ k, omega (arith, bits_second _ _ _ _ _ p.1 p.4, c.encode_part.auto)),
-    )
+    rw (c.depths_end-first.ensures.0, size) record {
+      depths_value = (p.3, p.0, length-take-le _ _ (omega (arith, few_links _ _ _ p.0)));
+      by_index = (λ ws k. arcs_in _ _ _ _ _ p.1 p.2.1 _ k, omega (arith, bits_second _ _ _ _ _ p.1 p.4, c.encode_part.auto));
+    }
 
 pub slice_bounds-counts-end : goal.slice_bounds-counts-end
 slice_bounds-counts-end c = omega (arith, c.requires.0.arrays.survey.meters_high)
@@ -66,7 +66,7 @@ code_counts-requires c =
     )
 
 pub shape_of-bits : goal.shape_of-bits
-shape_of-bits c = c.code_counts.auto.1.1.1.1.0 ∙ (c.code_arcs.auto.1.1.1.1.1.1.1.0 ∙ c.encode_part.auto.1.1.1.0)
+shape_of-bits c = c.code_counts.auto.bits ∙ (c.code_arcs.auto.bits ∙ c.encode_part.auto.bits)
 
 pub returns : goal.returns
 returns c =

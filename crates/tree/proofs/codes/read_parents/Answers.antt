@@ -40,10 +40,10 @@ read_link-requires c =
     let f = ends_at _ _ _ r.ends l.k c.loop-k-test.true in
     let i = l.invariant.1 r in
     let a = link_asks _ _ _ _ _ r l.k c.loop-k-test.true _ i in
-    rw c.arc_start-start.ensures.0 (
-      (a.0, a.1, a.2, a.3, a.4, link_count _ _ _ _ _ r l.k c.loop-k-test.true _ (p.2.each l.k c.loop-k-test.true)),
-      (f.0, f.1, omega (arith, f, r.ends.arrays.survey.meters_high), omega (arith, f, i.size), entries_small _ _ _ _ _ r _ _ i, link_small _ _ _ _ _ r l.k c.loop-k-test.true _ i),
-    )
+    rw c.arc_start-start.ensures.0 record {
+      bits = (a.0, a.1, a.2, a.3, a.4, link_count _ _ _ _ _ r l.k c.loop-k-test.true _ (p.2.each l.k c.loop-k-test.true));
+      le_u = (f.0, f.1, omega (arith, f, r.ends.arrays.survey.meters_high), omega (arith, f, i.size), entries_small _ _ _ _ _ r _ _ i, link_small _ _ _ _ _ r l.k c.loop-k-test.true _ i);
+    }
 
 pub overflow_add-k : goal.overflow_add-k
 overflow_add-k c = omega (arith, few_links _ _ _ c.requires.0.ends)

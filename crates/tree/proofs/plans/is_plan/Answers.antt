@@ -13,7 +13,7 @@ none : {P : Type 0} → false ≡ true → P
 none t = absurd (false≢true t)
 
 pub returns-then-plan-meters : goal.returns-then-plan-meters
-returns-then-plan-meters c = (λ ws. plan_size _ _ _ _ c.if-plan-meters.true, none)
+returns-then-plan-meters c = record { plan = λ ws. plan_size _ _ _ _ c.if-plan-meters.true; depths = none }
 
 pub slice_bounds-count_choices-end : goal.slice_bounds-count_choices-end
 slice_bounds-count_choices-end c = refl
@@ -25,7 +25,7 @@ count_choices-requires c =
 pub returns-then-counts-ne1 : goal.returns-then-counts-ne1
 returns-then-counts-ne1 c =
     let size : length c.args.plan.now ≡ c.args.meters = omega (arith, c.if-plan-meters.false) in
-    (λ ws. plan_root _ _ _ _ size (roots_other _ _ _ size (c.count_choices.ensures.1 0) (λ e. omega (arith, c.if-counts-ne1.true))), none)
+    record { plan = λ ws. plan_root _ _ _ _ size (roots_other _ _ _ size (c.count_choices.ensures.1 0) (λ e. omega (arith, c.if-counts-ne1.true))); depths = none }
 
 pub parent_links-requires : goal.parent_links-requires
 parent_links-requires c =
@@ -39,7 +39,7 @@ pub returns-then-parent_links-meters : goal.returns-then-parent_links-meters
 returns-then-parent_links-meters c =
     let size : length c.args.plan.now ≡ c.args.meters = omega (arith, c.if-plan-meters.false) in
     let root = one_root _ _ _ size (c.count_choices.ensures.1 0) (omega (arith, c.if-counts-ne1.false)) in
-    (plan_any _ _ _ _ _ _ _ (plan_unlinked _ _ _ _ size root c.requires.0.arrays.survey _ (c.parent_links.ensures _) (λ e. omega (arith, c.if-parent_links-meters.true, c.requires.0.arrays.survey.meters_low))), none)
+    record { plan = plan_any _ _ _ _ _ _ _ (plan_unlinked _ _ _ _ size root c.requires.0.arrays.survey _ (c.parent_links.ensures _) (λ e. omega (arith, c.if-parent_links-meters.true, c.requires.0.arrays.survey.meters_low))); depths = none }
 
 pub within_limit-requires : goal.within_limit-requires
 within_limit-requires c =
@@ -48,16 +48,16 @@ within_limit-requires c =
 pub returns-then-not-within_limit : goal.returns-then-not-within_limit
 returns-then-not-within_limit c =
     let size : length c.args.plan.now ≡ c.args.meters = omega (arith, c.if-plan-meters.false) in
-    (λ ws. plan_crowded _ _ _ _ size (sym c.within_limit.ensures ∙ not-true _ c.if-not-within_limit.true), none)
+    record { plan = λ ws. plan_crowded _ _ _ _ size (sym c.within_limit.ensures ∙ c.if-not-within_limit.true); depths = none }
 
 pub fill_depths-requires : goal.fill_depths-requires
 fill_depths-requires c = (c.requires.0.arrays.survey.meters_high, c.requires.2)
 
 pub depths_within-requires : goal.depths_within-requires
-depths_within-requires c = (rw c.requires.1 (deepest_few _ c.requires.0.arrays.survey.meters_high), c.fill_depths.auto.0 ∙ c.requires.2)
+depths_within-requires c = (rw c.requires.1 (deepest_few _ c.requires.0.arrays.survey.meters_high), c.fill_depths.auto.depths ∙ c.requires.2)
 
 pub returns : goal.returns
 returns c =
     let size : length c.args.plan.now ≡ c.args.meters = omega (arith, c.if-plan-meters.false) in
     let root = one_root _ _ _ size (c.count_choices.ensures.1 0) (omega (arith, c.if-counts-ne1.false)) in
-    (plan_any _ _ _ _ _ _ _ (plan_is _ _ _ _ size root c.requires.0.arrays.survey _ (c.parent_links.ensures _) (omega (arith, c.if-parent_links-meters.false)) (sym c.within_limit.ensures ∙ not-false _ c.if-not-within_limit.false) _ (rw c.requires.1 at (c.depths_within.ensures _ c.fill_depths.ensures))), λ t. c.fill_depths.ensures)
+    record { plan = plan_any _ _ _ _ _ _ _ (plan_is _ _ _ _ size root c.requires.0.arrays.survey _ (c.parent_links.ensures _) (omega (arith, c.if-parent_links-meters.false)) (sym c.within_limit.ensures ∙ c.if-not-within_limit.false) _ (rw c.requires.1 at (c.depths_within.ensures _ c.fill_depths.ensures))); depths = λ t. c.fill_depths.ensures }
