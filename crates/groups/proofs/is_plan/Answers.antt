@@ -1,6 +1,5 @@
 use mathlib.Core.Path.{sym, ◌∙◌}
 use native.Mathlib.Omega.{arith}
-use borrow.Author.Rules.{rules}
 use Rattle.onehot.proofs.Codes.{choices_are}
 use Rattle.groups.proofs.Answers.{plan_no, plan_sizes}
 use Rattle.groups.proofs.is_plan.Goals as goal

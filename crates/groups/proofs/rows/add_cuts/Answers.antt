@@ -1,11 +1,9 @@
-use Prim.Native.Nat.{◌-◌}
-use lib.ListN.{length}
 use native.Mathlib.Omega.{arith}
 use native.Mathlib.Nat.{div-le_self}
 use Rattle.links.proofs.Walk.{link_at, arrays_few}
 use Rattle.qubo.proofs.Turns.{fits_abs}
 use Rattle.onehot.proofs.Ends.{bits_few}
-use Rattle.groups.proofs.CutRows.{Added, added_start, added_all, added_stop, kept_up, kept_down, kept_none, upper_inside, below_inside, weight_room}
+use Rattle.groups.proofs.CutRows.{added_start, added_all, added_stop, kept_up, kept_down, kept_none, upper_inside, below_inside, weight_room}
 use Rattle.groups.proofs.rows.add_cuts.Goals.{then-u-meter, else-u-meter+then-v-meter, else-u-meter+else-v-meter}
 use Rattle.groups.proofs.rows.add_cuts.Goals as goal
 

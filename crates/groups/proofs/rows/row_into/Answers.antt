@@ -1,5 +1,4 @@
 use native.Mathlib.Omega.{arith}
-use borrow.Author.Rules.{rules}
 use Rattle.onehot.proofs.Ends.{bits_few}
 use Rattle.onehot.proofs.Rows.{hots_ready}
 use Rattle.groups.proofs.RowParts.{sizes_ready, cuts_ready, row_done}
