@@ -10,7 +10,7 @@ bracket_of-requires c =
 pub returns-then-bracket_of-ne0 : goal.returns-then-bracket_of-ne0
 returns-then-bracket_of-ne0 c =
     let d = none_read _ _ _ c.requires.0.low _ c.requires.1 _ c.bracket_of.ensures.0 (omega arith) _ in
-    (λ A. (d A).0, λ A. (d A).1)
+    record { answer = λ A. (d A).0; plan = λ A. (d A).1 }
 
 pub read_off-requires : goal.read_off-requires
 read_off-requires c =
@@ -18,12 +18,12 @@ read_off-requires c =
 
 pub cut_weight-weight-requires : goal.cut_weight-weight-requires
 cut_weight-weight-requires c =
-    rw (c.read_off.auto.1.1.1.0 ∙ c.requires.2) c.requires.0.arrays
+    rw (c.read_off.auto.plan ∙ c.requires.2) c.requires.0.arrays
 
 pub shape_of-plan : goal.shape_of-plan
-shape_of-plan c = c.read_off.auto.1.1.1.0
+shape_of-plan c = c.read_off.auto.plan
 
 pub returns : goal.returns
 returns c =
     let d = plan_read _ _ _ c.requires.0.low _ c.requires.1 _ c.bracket_of.ensures.0 (omega arith) _ _ _ c.read_off.ensures c.cut_weight-weight.ensures in
-    (λ A. (d A).0, λ A. (d A).1)
+    record { answer = λ A. (d A).0; plan = λ A. (d A).1 }

@@ -1,4 +1,3 @@
-use borrow.Author.Rules.{rules}
 use Rattle.onehot.proofs.Turns.{choices_within}
 use Rattle.groups.specs.Plans.{code_of}
 use Rattle.groups.proofs.Answers.{plan_choices}

@@ -4,7 +4,6 @@ use Prim.Native.Nat.{◌-◌, ◌*◌}
 use native.Mathlib.Omega.{arith}
 use lib.IntN.{ℤ}
 use lib.ListN.{drop}
-use borrow.Author.Rules.{rules}
 use Rattle.onehot.proofs.Ends.{bits_few}
 use Rattle.qubo.proofs.RowAction.{front_length, front_top}
 use Rattle.groups.proofs.fill_row.Goals as goal

@@ -1,5 +1,4 @@
 use native.Mathlib.Omega.{arith}
-use borrow.Author.Rules.{rules}
 use Rattle.groups.proofs.Answers.{penalty_is}
 use Rattle.groups.proofs.penalty_of.Goals as goal
 

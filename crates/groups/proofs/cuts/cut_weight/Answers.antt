@@ -1,7 +1,6 @@
 use native.Mathlib.Omega.{arith}
 use Rattle.links.proofs.Walk.{arrays_few}
 use Rattle.groups.proofs.Cutting.{cut_within, cut_left}
-use borrow.Author.Rules.{rules}
 use Rattle.groups.proofs.cuts.cut_weight.Goals as goal
 
 pub total_weight-requires : goal.total_weight-requires

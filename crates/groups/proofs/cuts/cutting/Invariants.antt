@@ -1,12 +1,8 @@
 use Prim.Native.Nat.{◌-◌}
-use mathlib.Core.Path.{◌∙◌}
 use lib.ListN.{length}
-use native.Mathlib.Omega.{arith}
-use Rattle.links.proofs.Walk.{link_at, Summed, summed_start, summed_turn, summed_end}
-use Rattle.onehot.proofs.Ends.{ends_fit}
+use Rattle.links.proofs.Walk.{Summed}
 use Rattle.lists.specs.Sums.{differ}
-use Rattle.onehot.proofs.LinkSums.{bits_link, bits_small, bits_link_fact, bits_room}
-use Rattle.groups.proofs.Cutting.{cutting_sum, differ_bits}
+use Rattle.onehot.proofs.LinkSums.{bits_link}
 use Rattle.groups.proofs.cuts.cutting.Given as goal
 
 abbrev pub invariant-loop-k : goal.invariant-loop-k

@@ -1,12 +1,10 @@
-use Prim.Native.Nat.{◌-◌}
-use mathlib.Core.Logic.{⊎_elim}
-use lib.ListN.{length}
 use native.Mathlib.Omega.{arith}
 use native.Mathlib.Nat.{div-le_self}
 use Rattle.links.proofs.Walk.{link_at, arrays_few}
 use Rattle.qubo.proofs.Turns.{fits_abs}
 use Rattle.onehot.proofs.Ends.{bits_few}
-use Rattle.groups.proofs.CutRows.{Added, added_start, added_all, added_stop, kept_up, kept_down, kept_none, upper_inside, below_inside, weight_room}
+use Rattle.groups.proofs.CutRows.{added_start, added_all, added_stop, kept_up, kept_down, kept_none, upper_inside, below_inside, weight_room}
+use Rattle.groups.proofs.rows.add_cuts.Goals.{then-u-meter, else-u-meter+then-v-meter, else-u-meter+else-v-meter}
 use Rattle.groups.proofs.rows.add_cuts.Goals as goal
 
 pub nonzero_div-meter : goal.nonzero_div-meter
@@ -107,13 +105,11 @@ loop-k-smaller c = omega arith
 pub loop-k-preserved : goal.loop-k-preserved
 loop-k-preserved c =
     let l = c.loop-k in
-    ⊎_elim
-    (λ w. kept_up _ _ _ _ _ _ c.requires.by_index.1 _ _ _ l.invariant c.loop-k-test.true w.0.taken _ _ w.5 w.3.ensures)
-    (λ v. ⊎_elim
-    (λ w. kept_down _ _ _ _ _ _ c.requires.by_index.1 _ _ _ l.invariant c.loop-k-test.true w.1.taken _ _ w.6 w.4.ensures)
-    (λ w. kept_none _ _ _ _ _ _ c.requires.by_index.1 _ _ _ l.invariant c.loop-k-test.true w.0.left w.1.left _ w.2)
-    v)
-    c.if-u-meter.branch
+    elim c.if-u-meter.branch [
+      | then-u-meter w ↦ kept_up _ _ _ _ _ _ c.requires.by_index.1 _ _ _ l.invariant c.loop-k-test.true w.if-u-meter.true _ _ w.row-is w.add_unequal.ensures
+      | else-u-meter+then-v-meter w ↦ kept_down _ _ _ _ _ _ c.requires.by_index.1 _ _ _ l.invariant c.loop-k-test.true w.if-v-meter.true _ _ w.row-is w.add_unequal-then-v-meter.ensures
+      | else-u-meter+else-v-meter w ↦ kept_none _ _ _ _ _ _ c.requires.by_index.1 _ _ _ l.invariant c.loop-k-test.true w.if-u-meter.false w.if-v-meter.false _ w.row-is
+    ]
 
 pub shape_of-row : goal.shape_of-row
 shape_of-row c = c.loop-k.invariant.size

@@ -1,5 +1,4 @@
 use native.Mathlib.Omega.{arith}
-use borrow.Author.Rules.{rules}
 use Rattle.onehot.proofs.Rows.{meter_inside}
 use Rattle.onehot.proofs.Ends.{bits_most}
 use Rattle.groups.proofs.SizesReady.{less_fits, here_small, more_small, first_ready, second_ready, third_ready, sizes_done}

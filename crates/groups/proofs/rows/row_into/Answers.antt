@@ -1,5 +1,4 @@
 use native.Mathlib.Omega.{arith}
-use borrow.Author.Rules.{rules}
 use Rattle.onehot.proofs.Ends.{bits_few}
 use Rattle.onehot.proofs.Rows.{hots_ready}
 use Rattle.groups.proofs.RowParts.{sizes_ready, cuts_ready, row_done}
@@ -21,7 +20,7 @@ pub add_cuts-requires : goal.add_cuts-requires
 add_cuts-requires c =
     let p = c.requires in
     let h = cuts_ready _ _ _ _ _ _ _ p.0 p.1 _ p.2 _ c.clear.ensures _ (c.add_one_hots.ensures _ p.3) _ c.add_sizes.ensures in
-    ((_, p.0, h.0, p.3), h.1)
+    record { by_index = (_, p.0, h.0, p.3); room = h.1 }
 
 pub returns : goal.returns
 returns c =

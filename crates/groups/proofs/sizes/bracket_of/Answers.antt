@@ -1,6 +1,5 @@
 use mathlib.Core.Path.{refl}
 use native.Mathlib.Omega.{arith}
-use borrow.Author.Rules.{rules}
 use Rattle.lists.proofs.Stores.{zero_entries}
 use Rattle.groups.proofs.Counted.{sizes_small, bracket_is}
 use Rattle.groups.proofs.sizes.bracket_of.Goals as goal

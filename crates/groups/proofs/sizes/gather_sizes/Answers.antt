@@ -1,7 +1,6 @@
-use Prim.Native.Nat.{◌≤◌, ◌-◌}
 use native.Mathlib.Omega.{arith}
 use Rattle.onehot.proofs.Parts.{part_within}
-use Rattle.groups.proofs.Counted.{SizesTo, sizes_start, sizes_room, sizes_turn, sizes_end}
+use Rattle.groups.proofs.Counted.{sizes_start, sizes_room, sizes_turn, sizes_end}
 use Rattle.groups.proofs.sizes.gather_sizes.Goals as goal
 
 pub loop-v-init : goal.loop-v-init

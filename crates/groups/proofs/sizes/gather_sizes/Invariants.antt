@@ -1,7 +1,5 @@
 use Prim.Native.Nat.{◌≤◌, ◌-◌}
-use native.Mathlib.Omega.{arith}
-use Rattle.onehot.proofs.Parts.{part_within}
-use Rattle.groups.proofs.Counted.{SizesTo, sizes_start, sizes_room, sizes_turn, sizes_end}
+use Rattle.groups.proofs.Counted.{SizesTo}
 use Rattle.groups.proofs.sizes.gather_sizes.Given as goal
 
 abbrev pub invariant-loop-v : goal.invariant-loop-v

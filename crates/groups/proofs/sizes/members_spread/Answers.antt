@@ -1,6 +1,5 @@
 use mathlib.Core.Path.{refl}
 use native.Mathlib.Omega.{arith}
-use borrow.Author.Rules.{rules}
 use Rattle.lists.proofs.Stores.{zero_entries}
 use Rattle.groups.proofs.Counted.{members_small, members_spread_is}
 use Rattle.groups.proofs.sizes.members_spread.Goals as goal

@@ -1,7 +1,6 @@
-use Prim.Native.Nat.{◌≤◌, ◌*◌, ◌-◌}
-use mathlib.Core.Path.{◌≡◌, sym}
+use mathlib.Core.Path.{sym}
 use native.Mathlib.Omega.{arith}
-use Rattle.groups.proofs.Counted.{spread_to, spread_start, spread_next, spread_end}
+use Rattle.groups.proofs.Counted.{spread_start, spread_next, spread_end}
 use Rattle.groups.proofs.sizes.spread_of.Goals as goal
 
 pub loop-h-init : goal.loop-h-init

@@ -1,7 +1,6 @@
 use Prim.Native.Nat.{◌≤◌, ◌*◌, ◌-◌}
-use mathlib.Core.Path.{◌≡◌, sym}
-use native.Mathlib.Omega.{arith}
-use Rattle.groups.proofs.Counted.{spread_to, spread_start, spread_next, spread_end}
+use mathlib.Core.Path.{◌≡◌}
+use Rattle.groups.proofs.Counted.{spread_to}
 use Rattle.groups.proofs.sizes.spread_of.Given as goal
 
 abbrev pub invariant-loop-h : goal.invariant-loop-h

@@ -1,9 +1,6 @@
 use Prim.Native.Nat.{◌≤◌, ◌+◌, ◌*◌, ◌-◌}
 use mathlib.Core.Path.{◌≡◌}
-use lib.ListN.{get_or}
-use native.Mathlib.Omega.{arith}
-use Rattle.lists.proofs.Sums.{gap_small}
-use Rattle.groups.proofs.Counted.{spread_before, before_start, before_next, before_end}
+use Rattle.groups.proofs.Counted.{spread_before}
 use Rattle.groups.proofs.sizes.spread_to.Given as goal
 
 abbrev pub invariant-loop-g : goal.invariant-loop-g
