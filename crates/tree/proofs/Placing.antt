@@ -9,7 +9,6 @@ use lib.Dec.{eqb, leb}
 use native.Mathlib.Omega.{arith}
 use native.Mathlib.Decide.{dec_le}
 use borrow.Author.Tests.{eqb-true, leb-true}
-use Rattle.lists.specs.Tests.{all}
 use Rattle.lists.specs.Sums.{nth}
 use Rattle.lists.proofs.Sums.{nth_past}
 use Rattle.lists.proofs.Tests.{and_left, and_right, every_at, all_from}

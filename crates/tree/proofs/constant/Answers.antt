@@ -3,7 +3,6 @@ use mathlib.Core.Path.{sym, ◌∙◌}
 use native.Mathlib.Omega.{arith}
 use mir.Syntax.{w64}
 use mir.Facts.{to_z_pos}
-use borrow.Author.Rules.{rules}
 use Rattle.tree.proofs.Answers.{constant_small}
 use Rattle.tree.proofs.Value.{constant_is}
 use Rattle.tree.proofs.constant.Goals as goal

@@ -2,7 +2,6 @@ use mathlib.Core.Path.{sym, ◌∙◌}
 use lib.Seq.{length-take-le}
 use Rattle.links.proofs.Walk.{arrays_few}
 use Rattle.tree.proofs.Answering.{choices_asked, choices_none}
-use borrow.Author.Rules.{rules}
 use Rattle.tree.proofs.decode.Goals as goal
 
 pub broken_choices-requires : goal.broken_choices-requires

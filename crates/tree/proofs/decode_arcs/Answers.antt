@@ -1,6 +1,5 @@
 use mathlib.Core.Path.{◌∙◌}
 use Rattle.tree.proofs.Answering.{used_asked, used_here, arcs_asked, arrays_plan, arcs_none, arcs_readable, plan_read}
-use borrow.Author.Rules.{rules}
 use Rattle.tree.proofs.decode_arcs.Goals as goal
 
 pub count_used-requires : goal.count_used-requires

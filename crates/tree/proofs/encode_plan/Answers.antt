@@ -1,8 +1,6 @@
 use mathlib.Core.Path.{sym, ◌∙◌}
 use native.Mathlib.Omega.{arith}
 use lib.Seq.{length-take-le}
-use borrow.Author.Rules.{rules}
-use borrow.Author.Tests.{not-true, not-false}
 use Rattle.tree.proofs.Filling.{front_room, front_is, front_length}
 use Rattle.tree.proofs.Placing.{coded_none, coded_plan}
 use Rattle.tree.proofs.encode_plan.Goals as goal
@@ -17,7 +15,9 @@ pub is_plan-requires : goal.is_plan-requires
 is_plan-requires c = let p = c.requires in (p.0, c.deepest-deepest.ensures, length-take-le _ _ (omega (arith, p.0.arrays.survey.meters_high)))
 
 pub returns-then-not-is_plan : goal.returns-then-not-is_plan
-returns-then-not-is_plan c = coded_none _ _ _ _ _ _ c.is_plan.ensures.plan c.if-not-is_plan.true _
+returns-then-not-is_plan c =
+    let r = coded_none _ _ _ _ _ _ c.is_plan.ensures.plan c.if-not-is_plan.true c.args.bits.now in
+    record { plan = r.0; bits = r.1 }
 
 pub slice_bounds-depths-end-2 : goal.slice_bounds-depths-end-2
 slice_bounds-depths-end-2 c = front_room _ _ _ (c.is_plan.ensures.depths c.if-not-is_plan.false) _
@@ -32,4 +32,6 @@ encode-requires c =
     (p.0, c.deepest-deepest.ensures, (p.0.weights, sym (c.is_plan.ensures.plan p.0.weights) ∙ t), front_is _ _ _ (c.is_plan.ensures.depths t) _, p.1)
 
 pub returns : goal.returns
-returns c = coded_plan _ _ _ _ _ _ c.is_plan.ensures.plan c.if-not-is_plan.false _ _ c.encode.ensures
+returns c =
+    let r = coded_plan _ _ _ _ _ _ c.is_plan.ensures.plan c.if-not-is_plan.false c.args.bits.now _ c.encode.ensures in
+    record { plan = r.0; bits = r.1 }

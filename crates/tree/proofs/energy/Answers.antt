@@ -1,7 +1,6 @@
 use mathlib.Core.Path.{sym}
 use lib.Seq.{length-take-le}
 use Rattle.links.proofs.Walk.{arrays_few}
-use borrow.Author.Rules.{rules}
 use Rattle.tree.proofs.energy.Goals as goal
 
 pub slice_bounds-used-end : goal.slice_bounds-used-end

@@ -4,7 +4,6 @@ use native.Mathlib.Omega.{arith}
 use mir.Syntax.{w64}
 use mir.Facts.{to_z_pos}
 use Rattle.tree.proofs.Answering.{choices_asked, used_asked, used_here, arcs_asked, cost_asked, energy_is, energy_small}
-use borrow.Author.Rules.{rules}
 use Rattle.tree.proofs.energy_with.Goals as goal
 
 pub count_used-requires : goal.count_used-requires

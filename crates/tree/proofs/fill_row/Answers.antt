@@ -1,6 +1,5 @@
 use mathlib.Core.Path.{sym}
 use native.Mathlib.Omega.{arith}
-use borrow.Author.Rules.{rules}
 use Rattle.links.proofs.Walk.{arrays_few}
 use Rattle.qubo.proofs.RowAction.{front_length}
 use Rattle.tree.proofs.Bound.{deepest_few}

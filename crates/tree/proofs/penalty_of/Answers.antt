@@ -1,4 +1,3 @@
-use borrow.Author.Rules.{rules}
 use Rattle.tree.proofs.Answers.{penalty_is}
 use Rattle.tree.proofs.penalty_of.Goals as goal
 

@@ -1,5 +1,4 @@
 use native.Mathlib.Omega.{arith}
-use borrow.Author.Rules.{rules}
 use Rattle.spanning.specs.Parents.{deepest}
 use Rattle.tree.proofs.Tree.bits.Goals as goal
 

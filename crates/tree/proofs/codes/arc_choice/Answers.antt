@@ -1,7 +1,6 @@
 use mathlib.Core.Path.{sym, ◌∙◌}
 use native.Mathlib.Omega.{arith}
 use Rattle.tree.proofs.Filling.{lent_length, lent_at, choice_none, choice_some}
-use borrow.Author.Rules.{rules}
 use Rattle.tree.proofs.codes.arc_choice.Goals as goal
 
 pub returns-then-is_parent-eq0 : goal.returns-then-is_parent-eq0

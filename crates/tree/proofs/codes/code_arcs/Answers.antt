@@ -4,7 +4,6 @@ use mathlib.Core.List.{[]}
 use Rattle.links.proofs.Arrays.{length_links_of}
 use Rattle.tree.proofs.Filling.{arc_choices_length}
 use Rattle.tree.proofs.Placing.{code_asks, code_given}
-use borrow.Author.Rules.{rules}
 use Rattle.tree.proofs.codes.code_arcs.Goals as goal
 
 pub encode_part-requires : goal.encode_part-requires

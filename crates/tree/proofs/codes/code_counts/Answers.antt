@@ -2,7 +2,6 @@ use mathlib.Core.Path.{refl}
 use Rattle.lists.proofs.Stores.{zero_entries}
 use Rattle.tree.proofs.Filling.{counts_length}
 use Rattle.tree.proofs.Placing.{code_asks, code_given}
-use borrow.Author.Rules.{rules}
 use Rattle.tree.proofs.codes.code_counts.Goals as goal
 
 pub count_choices-requires : goal.count_choices-requires

@@ -1,7 +1,6 @@
 use mathlib.Core.Path.{refl}
 use Rattle.arcs.proofs.Slices.{slice_length}
 use Rattle.tree.proofs.Placing.{placed_part}
-use borrow.Author.Rules.{rules}
 use Rattle.tree.proofs.codes.encode_part.Goals as goal
 
 pub encode-requires : goal.encode-requires

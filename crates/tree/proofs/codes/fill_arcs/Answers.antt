@@ -1,12 +1,10 @@
-use Prim.Native.Nat.{ℕ, ◌*◌, ◌-◌, ◌≤◌}
-use mathlib.Core.Path.{◌≡◌, refl, sym, ◌∙◌}
-use mathlib.Core.List.{List}
+use mathlib.Core.Path.{refl, sym, ◌∙◌}
 use native.Mathlib.Omega.{arith}
 use lib.ListN.{length, length-set}
 use Rattle.links.proofs.Walk.{ends_at, few_links}
 use Rattle.tree.specs.Plans.{arc_choice, arc_choices}
 use Rattle.arcs.proofs.ArcLists.{arc_up, arc_back}
-use Rattle.tree.proofs.Filling.{ArcsFilled, arcs_filled_start, arcs_filled_turn, arcs_filled_end}
+use Rattle.tree.proofs.Filling.{arcs_filled_start, arcs_filled_turn, arcs_filled_end}
 use Rattle.tree.proofs.codes.fill_arcs.Goals as goal
 
 pub loop-k-init : goal.loop-k-init

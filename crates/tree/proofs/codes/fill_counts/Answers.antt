@@ -1,9 +1,6 @@
-use Prim.Native.Nat.{◌-◌, ◌≤◌}
-use mathlib.Core.Path.{◌≡◌, refl, sym, ◌∙◌}
+use mathlib.Core.Path.{refl, sym, ◌∙◌}
 use native.Mathlib.Omega.{arith}
-use lib.ListN.{length, take, length-set}
-use Rattle.qubo.specs.Terms.{each}
-use Rattle.spanning.specs.Parents.{neighbours}
+use lib.ListN.{length-set}
 use Rattle.onehot.proofs.Codes.{filled_next}
 use Rattle.tree.proofs.Filling.{counts_filled}
 use Rattle.tree.proofs.codes.fill_counts.Goals as goal

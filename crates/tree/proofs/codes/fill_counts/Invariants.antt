@@ -1,11 +1,8 @@
 use Prim.Native.Nat.{◌-◌, ◌≤◌}
-use mathlib.Core.Path.{◌≡◌, refl, sym, ◌∙◌}
-use native.Mathlib.Omega.{arith}
-use lib.ListN.{length, take, length-set}
+use mathlib.Core.Path.{◌≡◌}
+use lib.ListN.{length, take}
 use Rattle.qubo.specs.Terms.{each}
 use Rattle.spanning.specs.Parents.{neighbours}
-use Rattle.onehot.proofs.Codes.{filled_next}
-use Rattle.tree.proofs.Filling.{counts_filled}
 use Rattle.tree.proofs.codes.fill_counts.Given as goal
 
 abbrev pub invariant-loop-v : goal.invariant-loop-v

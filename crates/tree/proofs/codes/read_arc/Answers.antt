@@ -3,7 +3,6 @@ use mathlib.Core.Path.{refl, ◌∙◌}
 use native.Mathlib.Omega.{arith}
 use Rattle.arcs.proofs.Slices.{slice_short}
 use Rattle.tree.proofs.ReadParents.{cut_set, one_parent, entry_added}
-use borrow.Author.Rules.{rules}
 use Rattle.tree.proofs.codes.read_arc.Goals as goal
 
 pub set_count-count-requires : goal.set_count-count-requires

@@ -2,7 +2,6 @@ use mathlib.Core.Path.{sym, ap, ◌∙◌}
 use native.Mathlib.Omega.{arith}
 use Rattle.tree.specs.Inner.{added}
 use Rattle.tree.proofs.ReadParents.{link_none, read_small}
-use borrow.Author.Rules.{rules}
 use Rattle.tree.proofs.codes.read_link.Goals as goal
 
 pub returns-then-n-eq0 : goal.returns-then-n-eq0

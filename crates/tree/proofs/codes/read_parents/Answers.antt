@@ -1,11 +1,7 @@
-use Prim.Native.Nat.{◌-◌, ◌≤◌}
 use mathlib.Core.Path.{sym, ◌∙◌}
 use native.Mathlib.Omega.{arith}
-use lib.ListN.{length}
 use Rattle.links.proofs.Walk.{ends_at, few_links}
-use Rattle.arcs.proofs.ArcLists.{arcs_left}
-use Rattle.tree.specs.Inner.{Readable}
-use Rattle.tree.proofs.ReadParents.{ReadTo, read_start, read_end, entries_small, link_asks, link_count, link_small, link_turn}
+use Rattle.tree.proofs.ReadParents.{read_start, read_end, entries_small, link_asks, link_count, link_small, link_turn}
 use Rattle.tree.proofs.codes.read_parents.Goals as goal
 
 pub clear_bits-requires : goal.clear_bits-requires

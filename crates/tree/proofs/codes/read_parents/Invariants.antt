@@ -1,11 +1,8 @@
 use Prim.Native.Nat.{◌-◌, ◌≤◌}
-use mathlib.Core.Path.{sym, ◌∙◌}
-use native.Mathlib.Omega.{arith}
 use lib.ListN.{length}
-use Rattle.links.proofs.Walk.{ends_at, few_links}
 use Rattle.arcs.proofs.ArcLists.{arcs_left}
 use Rattle.tree.specs.Inner.{Readable}
-use Rattle.tree.proofs.ReadParents.{ReadTo, read_start, read_end, entries_small, link_asks, link_count, link_small, link_turn}
+use Rattle.tree.proofs.ReadParents.{ReadTo}
 use Rattle.tree.proofs.codes.read_parents.Given as goal
 
 abbrev pub invariant-loop-k : goal.invariant-loop-k

@@ -2,7 +2,6 @@ use mathlib.Core.Path.{sym, ◌∙◌}
 use native.Mathlib.Omega.{arith}
 use Rattle.spanning.proofs.Recursion.{depth_below}
 use Rattle.tree.proofs.PlanTest.{bit_at, bit_ring}
-use borrow.Author.Rules.{rules}
 use Rattle.tree.proofs.plans.depth_bit.Goals as goal
 
 pub overflow_add-result : goal.overflow_add-result

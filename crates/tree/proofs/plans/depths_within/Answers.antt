@@ -1,4 +1,3 @@
-use Prim.Native.Nat.{ℕ, ◌-◌, ◌≤◌, ◌<◌}
 use native.Mathlib.Omega.{arith}
 use borrow.Author.Count.{below_more}
 use Rattle.tree.proofs.PlanTest.{DepthIn, depths_ring, depths_over, depths_yes}

@@ -1,7 +1,5 @@
 use Prim.Native.Nat.{ℕ, ◌-◌, ◌≤◌, ◌<◌}
-use native.Mathlib.Omega.{arith}
-use borrow.Author.Count.{below_more}
-use Rattle.tree.proofs.PlanTest.{DepthIn, depths_ring, depths_over, depths_yes}
+use Rattle.tree.proofs.PlanTest.{DepthIn}
 use Rattle.tree.proofs.plans.depths_within.Given as goal
 
 abbrev pub invariant-loop-v : goal.invariant-loop-v

@@ -1,8 +1,6 @@
-use Prim.Native.Nat.{◌-◌, ◌≤◌}
-use mathlib.Core.Path.{◌≡◌, refl, sym, ◌∙◌}
+use mathlib.Core.Path.{refl, sym, ◌∙◌}
 use native.Mathlib.Omega.{arith}
-use lib.ListN.{length, take, length-set}
-use Rattle.qubo.specs.Terms.{each}
+use lib.ListN.{length-set}
 use Rattle.onehot.proofs.Codes.{filled_next}
 use Rattle.tree.proofs.Filling.{depth_bit_of, depths_filled}
 use Rattle.tree.proofs.plans.fill_depths.Goals as goal

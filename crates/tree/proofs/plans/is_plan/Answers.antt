@@ -2,11 +2,9 @@ use mathlib.Core.Path.{◌≡◌, refl, sym, ◌∙◌}
 use mathlib.Core.Bool.{true, false, false≢true}
 use native.Mathlib.Omega.{arith}
 use lib.ListN.{length}
-use borrow.Author.Tests.{not-true, not-false}
 use Rattle.lists.proofs.Stores.{zero_entries}
 use Rattle.tree.proofs.Bound.{deepest_few}
 use Rattle.tree.proofs.PlanTest.{ends_plan, plan_any, one_root, roots_other, plan_size, plan_root, plan_unlinked, plan_crowded, plan_is}
-use borrow.Author.Rules.{rules}
 use Rattle.tree.proofs.plans.is_plan.Goals as goal
 
 none : {P : Type 0} → false ≡ true → P

@@ -1,7 +1,6 @@
 use mathlib.Core.Path.{sym, ◌∙◌}
 use native.Mathlib.Omega.{arith}
 use Rattle.tree.proofs.PlanTest.{neighbours_root, neighbours_more, children_few}
-use borrow.Author.Rules.{rules}
 use Rattle.tree.proofs.plans.neighbours_at.Goals as goal
 
 pub returns-then-parent_of-eq0 : goal.returns-then-parent_of-eq0

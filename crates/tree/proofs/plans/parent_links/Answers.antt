@@ -1,10 +1,9 @@
-use Prim.Native.Nat.{◌*◌, ◌-◌, ◌≤◌}
 use native.Mathlib.Omega.{arith}
-use lib.ListN.{length, get_or}
+use lib.ListN.{get_or}
 use Rattle.lists.specs.Sums.{nth}
 use Rattle.lists.proofs.Sums.{same_le}
 use Rattle.links.proofs.Walk.{ends_at, few_links, summed_start}
-use Rattle.tree.proofs.PlanTest.{Joined, joined_turn, joined_end}
+use Rattle.tree.proofs.PlanTest.{joined_turn, joined_end}
 use Rattle.tree.proofs.plans.parent_links.Goals as goal
 
 pub loop-k-init : goal.loop-k-init

@@ -1,10 +1,6 @@
 use Prim.Native.Nat.{◌*◌, ◌-◌, ◌≤◌}
-use native.Mathlib.Omega.{arith}
-use lib.ListN.{length, get_or}
-use Rattle.lists.specs.Sums.{nth}
-use Rattle.lists.proofs.Sums.{same_le}
-use Rattle.links.proofs.Walk.{ends_at, few_links, summed_start}
-use Rattle.tree.proofs.PlanTest.{Joined, joined_turn, joined_end}
+use lib.ListN.{length}
+use Rattle.tree.proofs.PlanTest.{Joined}
 use Rattle.tree.proofs.plans.parent_links.Given as goal
 
 abbrev pub invariant-loop-k : goal.invariant-loop-k

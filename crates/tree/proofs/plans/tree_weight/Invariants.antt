@@ -1,11 +1,7 @@
 use Prim.Native.Nat.{◌*◌, ◌-◌, ◌≤◌}
-use mathlib.Core.Path.{refl}
-use native.Mathlib.Omega.{arith}
 use lib.ListN.{length}
-use Rattle.links.specs.Links.{link_in}
-use Rattle.links.proofs.Walk.{Summed, summed_start, summed_turn, link_at, arrays_few}
+use Rattle.links.proofs.Walk.{Summed}
 use Rattle.tree.specs.Inner.{used_weight}
-use Rattle.tree.proofs.PlanTest.{weighed_end}
 use Rattle.tree.proofs.plans.tree_weight.Given as goal
 
 abbrev pub invariant-loop-k : goal.invariant-loop-k

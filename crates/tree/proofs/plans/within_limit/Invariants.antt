@@ -1,9 +1,6 @@
-use Prim.Native.Nat.{ℕ, ◌+◌, ◌-◌, ◌≤◌}
-use native.Mathlib.Omega.{arith}
+use Prim.Native.Nat.{ℕ, ◌-◌, ◌≤◌}
 use lib.ListN.{length}
 use Rattle.spanning.specs.Parents.{neighbours}
-use Rattle.lists.proofs.Tests.{each_next}
-use Rattle.tree.proofs.PlanTest.{limit_over, limit_yes}
 use Rattle.tree.proofs.plans.within_limit.Given as goal
 
 abbrev pub invariant-loop-v : goal.invariant-loop-v

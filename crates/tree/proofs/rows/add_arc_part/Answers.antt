@@ -1,4 +1,3 @@
-use borrow.Author.Rules.{rules}
 use Rattle.arcs.proofs.ArcLists.{weight_few}
 use Rattle.tree.proofs.RowParts.{first_row, weights_ask, arc_part_fact}
 use Rattle.tree.proofs.rows.add_arc_part.Goals as goal

@@ -1,4 +1,3 @@
-use borrow.Author.Rules.{rules}
 use Rattle.links.proofs.Walk.{arrays_few}
 use Rattle.tree.proofs.RowParts.{counts_ask, degrees_ask, count_part_fact}
 use Rattle.tree.proofs.rows.add_count_part.Goals as goal

@@ -1,4 +1,3 @@
-use borrow.Author.Rules.{rules}
 use Rattle.tree.proofs.RowParts.{root_asks, depths_ask, entries_ask, depth_part_fact}
 use Rattle.tree.proofs.rows.add_depth_part.Goals as goal
 

@@ -1,4 +1,3 @@
-use borrow.Author.Rules.{rules}
 use Rattle.tree.proofs.RowParts.{place_asks, depths_ready, counts_ready, arcs_ready, row_done}
 use Rattle.tree.proofs.rows.row_into.Goals as goal
 

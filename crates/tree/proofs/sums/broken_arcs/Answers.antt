@@ -1,6 +1,5 @@
 use native.Mathlib.Omega.{arith}
 use Rattle.tree.proofs.Answering.{arcs_are}
-use borrow.Author.Rules.{rules}
 use Rattle.tree.proofs.sums.broken_arcs.Goals as goal
 
 pub entry_gaps-entries-requires : goal.entry_gaps-entries-requires

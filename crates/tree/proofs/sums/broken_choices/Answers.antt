@@ -1,6 +1,5 @@
 use native.Mathlib.Omega.{arith}
 use Rattle.tree.proofs.Answering.{depths_asked, choices_are}
-use borrow.Author.Rules.{rules}
 use Rattle.tree.proofs.sums.broken_choices.Goals as goal
 
 pub root_miss-roots-requires : goal.root_miss-roots-requires
