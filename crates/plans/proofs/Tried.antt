@@ -34,6 +34,7 @@ given_applies ((n, false) ∷ xs) h = another (given_applies xs h)
 -- no place is below the first
 above : (xs : List (ℕ × Bool)) (low n : ℕ) → rises_from low xs ≡ true → Applies n xs → low < place n
 unfolding rises_from
+above [] low n r a = elim a [ ]
 above (x ∷ xs) low n r (this e) = ltb-true low (place n) (and_left (ltb low (place n)) _ r)
 above (x ∷ xs) low n r (another a) =
     let p = ltb-true low (place x.0) (and_left (ltb low (place x.0)) _ r) in
@@ -43,6 +44,7 @@ above (x ∷ xs) low n r (another a) =
 -- "Of several, the lowest number is given, except that 10 precedes 9", and but for the places that 02 gives: that of the first place is given
 pub lowest_given : (xs : List (ℕ × Bool)) (low n : ℕ) → rises_from low xs ≡ true → Applies n xs → (place (refusal xs) ≤ place n) × (low < place (refusal xs))
 unfolding refusal rises_from
+lowest_given [] low n r a = elim a [ ]
 lowest_given ((m, true) ∷ xs) low n r (this e) = (omega arith, ltb-true low (place m) (and_left (ltb low (place m)) _ r))
 lowest_given ((m, false) ∷ xs) low n r (this e) = absurd (true≢false (sym e))
 lowest_given ((m, true) ∷ xs) low n r (another a) =

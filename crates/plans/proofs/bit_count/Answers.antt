@@ -5,7 +5,6 @@ use mir.Syntax.{w64}
 use mir.Facts.{to_z_pos}
 use Rattle.plans.proofs.Posed.{given, withheld}
 use Rattle.plans.proofs.Calling.{number_stops, number_given, bits_said}
-use borrow.Author.Rules.{rules}
 use Rattle.plans.proofs.bit_count.Goals as goal
 
 pub overflow_cast-result : goal.overflow_cast-result
@@ -15,9 +14,11 @@ overflow_cast-result c =
 
 pub returns-in-Refused : goal.returns-in-Refused
 returns-in-Refused c =
-    (refl, bits_said _ _ _ (number_stops _ _ _ _ (withheld c.args.image.now c.args.ask _ c.problem_in-posed.ensures _ c.in-Refused.is)))
+    let r = bits_said c.args.image.now c.args.ask _ (number_stops _ _ _ _ (withheld c.args.image.now c.args.ask _ c.problem_in-posed.ensures _ c.in-Refused.is)) in
+    record { lent = refl; answer = r.0; number = r.1 }
 
 pub returns-in-Accepted : goal.returns-in-Accepted
 returns-in-Accepted c =
     let g = given c.args.image.now c.args.ask _ c.problem_in-posed.ensures _ _ _ c.in-Accepted.is in
-    (refl, bits_said _ _ _ (number_given _ _ _ _ g.none (to_z_pos w64 {n = c.in-Accepted.bits} (omega (arith, g.few)) ∙ ap pos g.is_bits)))
+    let r = bits_said c.args.image.now c.args.ask _ (number_given _ _ _ _ g.none (to_z_pos w64 {n = c.in-Accepted.bits} (omega (arith, g.few)) ∙ ap pos g.is_bits)) in
+    record { lent = refl; answer = r.0; number = r.1 }

@@ -2,7 +2,6 @@ use mathlib.Core.Path.{refl, ap}
 use lib.ListN.{length}
 use native.Mathlib.Omega.{arith}
 use Rattle.plans.proofs.Calling.{row_front}
-use borrow.Author.Rules.{rules}
 use Rattle.plans.proofs.row.Goals as goal
 
 pub slice_bounds-result-end : goal.slice_bounds-result-end
@@ -12,4 +11,4 @@ slice_bounds-result-end c =
 
 pub returns : goal.returns
 returns c =
-    (refl, (row_front _ _ _ c.args.out.now _ _ c.fill-filled.ensures.number.1 c.fill-filled.ensures.row, refl))
+    record { lent = refl; part = row_front _ _ _ c.args.out.now _ _ c.fill-filled.ensures.number.1 c.fill-filled.ensures.row; place = refl }

@@ -1,5 +1,4 @@
 use Rattle.plans.specs.Kinds.{limits_hold}
-use borrow.Author.Rules.{rules}
 use Rattle.plans.proofs.kinds.allows.Goals as goal
 
 pub returns-in-Channels : goal.returns-in-Channels

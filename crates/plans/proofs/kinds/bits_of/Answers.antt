@@ -2,7 +2,6 @@ use Rattle.channels.proofs.Asking as channels
 use Rattle.groups.proofs.Asking as groups
 use Rattle.tree.proofs.Asking as tree
 use Rattle.plans.specs.Kinds.{limits_hold, instance_by}
-use borrow.Author.Rules.{rules}
 use Rattle.plans.proofs.kinds.bits_of.Goals as goal
 
 pub bits-requires : goal.bits-requires

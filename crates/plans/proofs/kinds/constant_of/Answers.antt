@@ -1,6 +1,6 @@
 use mir.Syntax.{w64}
 use mir.Facts.{to_z-of_z}
-use borrow.Author.Rules.{rules, sfits_of}
+use borrow.Author.Rules.{sfits_of}
 use Rattle.plans.proofs.Dispatch.{channels_most, groups_most, tree_most, channels_by, groups_by, tree_by}
 use Rattle.plans.proofs.kinds.constant_of.Goals as goal
 

@@ -1,5 +1,4 @@
 use mathlib.Core.Path.{refl}
-use borrow.Author.Rules.{rules}
 use Rattle.plans.proofs.Dispatch.{channels_is, channels_lent, channels_decoded, groups_is, groups_lent, tree_is, tree_lent, tree_bits, unrepaired_decoded, bits_by, assignment_by}
 use Rattle.plans.proofs.kinds.decode.Goals as goal
 
@@ -17,12 +16,15 @@ decode-requires-in-Tree c =
 
 pub returns-in-Channels : goal.returns-in-Channels
 returns-in-Channels c =
-    channels_decoded _ _ _ _ _ _ _ _ _ (channels_is _ _ _ _ c.requires.0 _ c.in-Channels.is) _ c.of_channels.ensures c.decode.ensures
+    let r = channels_decoded _ _ _ _ _ c.args.bits.now c.args.plan.now _ _ (channels_is _ _ _ _ c.requires.0 _ c.in-Channels.is) _ c.of_channels.ensures (c.decode.ensures.plan, (c.decode.ensures.weight, c.decode.ensures.repaired)) in
+    record { answer = r.0; plan = r.1 }
 
 pub returns-in-Groups : goal.returns-in-Groups
 returns-in-Groups c =
-    unrepaired_decoded _ _ _ _ _ _ (groups_is _ _ _ _ c.requires.0 _ c.in-Groups.is) refl _ c.of_unrepaired.ensures (c.decode-in-Groups.ensures.answer _, c.decode-in-Groups.ensures.plan _)
+    let r = unrepaired_decoded _ _ c.args.bits.now c.args.plan.now _ _ (groups_is _ _ _ _ c.requires.0 _ c.in-Groups.is) refl _ c.of_unrepaired.ensures (c.decode-in-Groups.ensures.answer _, c.decode-in-Groups.ensures.plan _) in
+    record { answer = r.0; plan = r.1 }
 
 pub returns-in-Tree : goal.returns-in-Tree
 returns-in-Tree c =
-    unrepaired_decoded _ _ _ _ _ _ (tree_is _ _ _ _ c.requires.0 _ c.in-Tree.is) refl _ c.of_unrepaired-in-Tree.ensures (c.decode-in-Tree.ensures.answer _, c.decode-in-Tree.ensures.plan _)
+    let r = unrepaired_decoded _ _ c.args.bits.now c.args.plan.now _ _ (tree_is _ _ _ _ c.requires.0 _ c.in-Tree.is) refl _ c.of_unrepaired-in-Tree.ensures (c.decode-in-Tree.ensures.answer _, c.decode-in-Tree.ensures.plan _) in
+    record { answer = r.0; plan = r.1 }

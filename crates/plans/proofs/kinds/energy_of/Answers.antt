@@ -1,7 +1,7 @@
 use mathlib.Core.Path.{◌∙◌}
 use mir.Syntax.{w64}
 use mir.Facts.{to_z-of_z}
-use borrow.Author.Rules.{rules, sfits_of}
+use borrow.Author.Rules.{sfits_of}
 use Rattle.plans.proofs.Dispatch.{channels_is, channels_lent, channels_penalty, groups_is, groups_lent, groups_penalty, tree_is, tree_lent, tree_penalty, tree_bits, bits_by, assignment_by, energy_by}
 use Rattle.plans.proofs.kinds.energy_of.Goals as goal
 

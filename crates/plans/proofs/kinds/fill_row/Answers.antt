@@ -1,5 +1,4 @@
 use native.Mathlib.Omega.{arith}
-use borrow.Author.Rules.{rules}
 use Rattle.plans.proofs.Dispatch.{channels_is, channels_lent, channels_penalty, groups_is, groups_lent, groups_penalty, tree_is, tree_lent, tree_penalty, tree_bits, bits_by, row_by}
 use Rattle.plans.proofs.kinds.fill_row.Goals as goal
 

@@ -1,5 +1,4 @@
 use mathlib.Core.Path.{sym, ap}
-use borrow.Author.Rules.{rules}
 use Rattle.plans.specs.Inner.{of_unrepaired}
 use Rattle.plans.proofs.kinds.of_unrepaired.Goals as goal
 

@@ -1,7 +1,6 @@
 use Rattle.groups.proofs.Asking as groups
 use Rattle.tree.proofs.Asking as tree
 use Rattle.plans.specs.Kinds.{penalty_of}
-use borrow.Author.Rules.{rules}
 use Rattle.plans.proofs.kinds.penalty_of.Goals as goal
 
 pub penalty_of-requires-in-Groups : goal.penalty_of-requires-in-Groups

@@ -7,7 +7,6 @@ use Rattle.links.proofs.Walk.{arrays_few}
 use Rattle.plans.specs.Kinds.{site_of, limits_hold}
 use Rattle.plans.proofs.Refusing.{ask_limits}
 use Rattle.plans.proofs.Posed.{posed_bad, posed_many, raised_fits, posed_well}
-use borrow.Author.Rules.{rules}
 use Rattle.plans.proofs.posing.pose_links.Goals as goal
 
 pub returns-then-number-ne0 : goal.returns-then-number-ne0

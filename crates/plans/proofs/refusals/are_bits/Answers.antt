@@ -1,9 +1,8 @@
-use Prim.Native.Nat.{◌≤◌, ◌-◌, ◌+◌}
+use Prim.Native.Nat.{◌+◌}
 use mathlib.Core.Path.{subst, sym}
-use mathlib.Core.Logic.{⊎_elim}
 use native.Mathlib.Omega.{arith}
-use lib.ListN.{length}
 use Rattle.plans.proofs.Refusing.{Topped, topped_start, topped_more, topped_same, topped_end}
+use Rattle.plans.proofs.refusals.are_bits.Goals.{then-top-bits, else-top-bits}
 use Rattle.plans.proofs.refusals.are_bits.Goals as goal
 
 pub loop-i-init : goal.loop-i-init
@@ -26,10 +25,10 @@ loop-i-preserved c =
     let x = c.args.bits.now in
     let l = c.loop-i in (
       omega arith,
-      ⊎_elim
-          (λ w. subst (Topped x (l.i + 1)) (sym w.2) (topped_more x l.i l.top l.invariant.1 w.0.taken))
-          (λ w. subst (Topped x (l.i + 1)) (sym w.1) (topped_same x l.i l.top l.invariant.1 (omega (arith, w.0.left))))
-          c.if-top-bits.branch,
+      elim c.if-top-bits.branch [
+        | then-top-bits w ↦ subst (Topped x (l.i + 1)) (sym w.top-is) (topped_more x l.i l.top l.invariant.1 w.if-top-bits.true)
+        | else-top-bits w ↦ subst (Topped x (l.i + 1)) (sym w.top-is) (topped_same x l.i l.top l.invariant.1 (omega (arith, w.if-top-bits.false)))
+      ],
     )
 
 pub returns : goal.returns

@@ -1,9 +1,6 @@
-use Prim.Native.Nat.{◌≤◌, ◌-◌, ◌+◌}
-use mathlib.Core.Path.{subst, sym}
-use mathlib.Core.Logic.{⊎_elim}
-use native.Mathlib.Omega.{arith}
+use Prim.Native.Nat.{◌≤◌, ◌-◌}
 use lib.ListN.{length}
-use Rattle.plans.proofs.Refusing.{Topped, topped_start, topped_more, topped_same, topped_end}
+use Rattle.plans.proofs.Refusing.{Topped}
 use Rattle.plans.proofs.refusals.are_bits.Given as goal
 
 abbrev pub invariant-loop-i : goal.invariant-loop-i

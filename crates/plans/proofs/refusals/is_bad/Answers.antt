@@ -2,7 +2,6 @@ use native.Mathlib.Omega.{arith}
 use mathlib.Core.Path.{refl}
 use borrow.Author.Tests.{le-leb, lt-leb}
 use Rattle.plans.specs.Refusals.{bad_kind}
-use borrow.Author.Rules.{rules}
 use Rattle.plans.proofs.refusals.is_bad.Goals as goal
 
 pub returns-then-kind-lt1 : goal.returns-then-kind-lt1

@@ -1,7 +1,6 @@
 use mathlib.Core.Path.{sym, ◌∙◌}
 use native.Mathlib.Omega.{arith}
 use Rattle.plans.proofs.Refusing.{ask_bad, ask_wide, ask_fine}
-use borrow.Author.Rules.{rules}
 use Rattle.plans.proofs.refusals.of_ask.Goals as goal
 
 pub returns-then-is_bad : goal.returns-then-is_bad

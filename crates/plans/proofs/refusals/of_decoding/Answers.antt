@@ -1,6 +1,5 @@
 use native.Mathlib.Omega.{arith}
 use Rattle.plans.proofs.Refusing.{decode_plan_length, decode_rest}
-use borrow.Author.Rules.{rules}
 use Rattle.plans.proofs.refusals.of_decoding.Goals as goal
 
 pub returns-then-plan-meters : goal.returns-then-plan-meters

@@ -2,14 +2,13 @@ use mathlib.Core.Bool.{not}
 use mathlib.Core.Path.{sym, ap, ◌∙◌}
 use native.Mathlib.Omega.{arith}
 use Rattle.plans.proofs.Refusing.{energy_length, energy_no_bits, energy_fits}
-use borrow.Author.Rules.{rules}
 use Rattle.plans.proofs.refusals.of_energy.Goals as goal
 
 pub returns-then-bits-needed : goal.returns-then-bits-needed
 returns-then-bits-needed c = energy_length _ _ (omega arith)
 
 pub returns-then-not-are_bits : goal.returns-then-not-are_bits
-returns-then-not-are_bits c = energy_no_bits _ _ (omega arith) (ap not (sym c.are_bits.ensures) ∙ c.if-not-are_bits.true)
+returns-then-not-are_bits c = energy_no_bits _ _ (omega arith) (ap not (sym c.are_bits.ensures ∙ c.if-not-are_bits.true))
 
 pub returns : goal.returns
-returns c = energy_fits _ _ (omega arith) (ap not (sym c.are_bits.ensures) ∙ c.if-not-are_bits.false)
+returns c = energy_fits _ _ (omega arith) (ap not (sym c.are_bits.ensures ∙ c.if-not-are_bits.false))
