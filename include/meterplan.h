@@ -1,6 +1,6 @@
 /* Tables for annealers from radio surveys: the proved library as C sees it.
  *
- * Build it by `rt staticlib meterplan`; link target/staticlib/libmeterplan.a.
+ * Build it by `rt lib` in crates/meterplan; link crates/meterplan/out/libmeterplan.a.
  *
  * Each function returns its result or the number of the first refusal that applies; a refusal of 0 says that the result
  * is there. A refused call alters nothing, and gives 0 for all its other values. A slice is a pointer and a length. The
