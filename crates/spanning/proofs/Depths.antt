@@ -24,13 +24,13 @@ pub joins_in : (N : ℕ) (l : Link) → LinkOf N l → {a b : ℕ} → Joins l a
 joins_in N l f (along e h) = omega (arith, f.u_low, f.ordered, f.v_high)
 joins_in N l f (back e h) = omega (arith, f.u_low, f.ordered, f.v_high)
 
-linked_in-each : (N : ℕ) {a b : ℕ} (ls : List Link) → all (link_ok N) ls ≡ true → Linked a b ls → (1 ≤ a) × (a ≤ N) × (1 ≤ b) × (b ≤ N)
-linked_in-each N _ o (here {l = l} {ls = ls} j) = joins_in N l (link_of N l (all_head (link_ok N) l ls o)) j
-linked_in-each N _ o (there {l = l} {ls = ls} k) = linked_in-each N ls (all_tail (link_ok N) l ls o) k
+linked_in_each : (N : ℕ) {a b : ℕ} (ls : List Link) → all (link_ok N) ls ≡ true → Linked a b ls → (1 ≤ a) × (a ≤ N) × (1 ≤ b) × (b ≤ N)
+linked_in_each N _ o (here {l = l} {ls = ls} j) = joins_in N l (link_of N l (all_head (link_ok N) l ls o)) j
+linked_in_each N _ o (there {l = l} {ls = ls} k) = linked_in_each N ls (all_tail (link_ok N) l ls o) k
 
 -- so are neighbours over links of N meters
 pub linked_in : (N : ℕ) (ls : List Link) → all (link_ok N) ls ≡ true → {a b : ℕ} → Linked a b ls → (1 ≤ a) × (a ≤ N) × (1 ≤ b) × (b ≤ N)
-linked_in N ls o k = linked_in-each N ls o k
+linked_in N ls o k = linked_in_each N ls o k
 
 -- in a tree over a survey's links the parent of a meter is a meter
 pub parent_in : (N D : ℕ) (ls : List Link) (p : List ℕ) → Survey N ls → Shape N D ls p → (v : ℕ) → 1 ≤ v → v ≤ N → (nth p v ≡ 0 → ⊥) → (1 ≤ nth p v) × (nth p v ≤ N)
