@@ -196,7 +196,7 @@ def main():
         ("to a non-blocking pipe with a slow reader", "whole", lambda: to_pipe(blocking=False, pause=0.002)),
         ("to a non-blocking pipe whose reader stops", "message", to_stopped_reader),
         ("with interrupted and partial writes", "whole", lambda: to_file(LD_PRELOAD=FAULTY)),
-        ("with a failure told when it is kept", "message", lambda: to_file(LD_PRELOAD=FAULTY, FAULTY_SYNC="1")),
+        ("with a failure told when it is synchronized", "message", lambda: to_file(LD_PRELOAD=FAULTY, FAULTY_SYNC="1")),
         ("from a non-blocking pipe with a slow writer", "whole", lambda: from_pipe(INPUT[:1000], INPUT[1000:])),
         ("from a non-blocking pipe whose writer stops", "no input", lambda: from_pipe(INPUT[:1000], None)),
         ("from a directory", "no input", from_directory),

@@ -1,4 +1,4 @@
-/* Loaded before the C library (LD_PRELOAD): every second write to standard output is interrupted, the others take a part; where FAULTY_SYNC is set, a file that is asked to bring what it took to its device fails. */
+/* Loaded before the C library (LD_PRELOAD): every second write to standard output is interrupted, the others take a part; where FAULTY_SYNC is set, synchronizing a file fails. */
 #include <errno.h>
 #include <stdlib.h>
 #include <sys/syscall.h>

@@ -1,4 +1,4 @@
-use Rattle.std.proofs.Common.{◌≡◌, ◌≤◌, length, arith, rules}
+use Rattle.std.proofs.Common.{◌≡◌, ◌≤◌, length}
 use Rattle.surveys.proofs.bests.fill.Given as goal
 
 abbrev pub invariant-loop-left : goal.invariant-loop-left

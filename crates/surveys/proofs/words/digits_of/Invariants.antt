@@ -1,4 +1,4 @@
-use Rattle.std.proofs.Common.{◌-◌, ◌<◌, ◌≤◌, length, rules}
+use Rattle.std.proofs.Common.{◌-◌, ◌<◌, ◌≤◌, length}
 use Rattle.surveys.proofs.words.digits_of.Given as goal
 
 abbrev pub invariant-loop-i : goal.invariant-loop-i

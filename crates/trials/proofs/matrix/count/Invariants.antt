@@ -1,4 +1,4 @@
-use Rattle.std.proofs.Common.{◌-◌, ◌≤◌, ⊎_elim, arith, rules}
+use Rattle.std.proofs.Common.{◌-◌, ◌≤◌}
 use Rattle.trials.proofs.matrix.count.Given as goal
 
 abbrev pub invariant-loop-i : goal.invariant-loop-i
