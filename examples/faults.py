@@ -176,9 +176,9 @@ def finding(table, arrived, said, status):
         return "whole"
     if not table.startswith(arrived):
         return f"something else, status {status}, said {said}"
-    if (said, status) == (INCOMPLETE, 0):
+    if (said, status) == (INCOMPLETE, 1):
         return "message"
-    if (arrived, said, status) == (b"", NO_INPUT, 0):
+    if (arrived, said, status) == (b"", NO_INPUT, 1):
         return "no input"
     return signal.Signals(-status).name if status < 0 else f"incomplete, status {status}, said {said}"
 
@@ -190,13 +190,13 @@ def main():
         ("to a full device", "message", lambda: to_device("/dev/full")),
         ("to a closed output", "message", lambda: to_file(closed=1)),
         ("to a pipe closed by its reader, SIGPIPE ignored", "message", lambda: to_closed_pipe(signal.SIGPIPE)),
-        ("to a pipe closed by its reader", "SIGPIPE", to_closed_pipe),
+        ("to a pipe closed by its reader", "message", to_closed_pipe),
         ("to a file of limited size, SIGXFSZ ignored", "message", lambda: to_file(most=1000001, ignored=signal.SIGXFSZ)),
         ("to a file of limited size", "SIGXFSZ", lambda: to_file(most=1000001)),
         ("to a non-blocking pipe with a slow reader", "whole", lambda: to_pipe(blocking=False, pause=0.002)),
         ("to a non-blocking pipe whose reader stops", "message", to_stopped_reader),
         ("with interrupted and partial writes", "whole", lambda: to_file(LD_PRELOAD=FAULTY)),
-        ("with a failure told when it is closed", "message", lambda: to_file(LD_PRELOAD=FAULTY, FAULTY_CLOSE="1")),
+        ("with a failure told when it is synchronized", "message", lambda: to_file(LD_PRELOAD=FAULTY, FAULTY_SYNC="1")),
         ("from a non-blocking pipe with a slow writer", "whole", lambda: from_pipe(INPUT[:1000], INPUT[1000:])),
         ("from a non-blocking pipe whose writer stops", "no input", lambda: from_pipe(INPUT[:1000], None)),
         ("from a directory", "no input", from_directory),

@@ -1,4 +1,4 @@
-/* Loaded before the C library (LD_PRELOAD): every second write to standard output is interrupted, the others take a part; where FAULTY_CLOSE is set, closing it fails. */
+/* Loaded before the C library (LD_PRELOAD): every second write to standard output is interrupted, the others take a part; where FAULTY_SYNC is set, synchronizing a file fails. */
 #include <errno.h>
 #include <stdlib.h>
 #include <sys/syscall.h>
@@ -16,11 +16,11 @@ ssize_t write(int fd, const void *bytes, size_t count)
     return syscall(SYS_write, fd, bytes, count < 50000 ? count : 50000);
 }
 
-int close(int fd)
+int fdatasync(int fd)
 {
-    if (fd == STDOUT_FILENO && getenv("FAULTY_CLOSE") != NULL) {
+    if (getenv("FAULTY_SYNC") != NULL) {
         errno = EIO;
         return -1;
     }
-    return syscall(SYS_close, fd);
+    return syscall(SYS_fdatasync, fd);
 }

@@ -2,7 +2,7 @@
 ghost use Rattle.std.specs.Prelude.{◌≡◌, ◌+◌, ◌≤◌, ◌<◌, length, nat_abs};
 
 use crate::streams;
-use libc::STDOUT_FILENO;
+use std::rt::Clock;
 
 // From here on a line may not fit: it has three numbers of at most 21 bytes, two spaces and its end.
 const NEARLY_FULL: usize = 65470;
@@ -25,9 +25,8 @@ pub fn put_number(out: &mut [u8; 65536], at: usize, n: u64) -> usize
     requires { at + 20 ≤ 65536 }
     ensures { result ≤ at + 20 }
 {
-    let mut digits = [0u8; 20];
-    let k = io::decimal(n, &mut digits);
-    put(out, at, &digits[..k])
+    let mut digits = itoa::Buffer::new();
+    put(out, at, digits.format(n).as_bytes())
 }
 
 // The absolute value, of the least number too: -1 - z fits where 0 - z does not.
@@ -74,28 +73,28 @@ pub struct Buffered {
 }
 
 // Writes the first `at` bytes. Gives whether all of them were written.
-fn write_front(s: &[u8], at: usize) -> bool
+fn write_front(rt: &(impl Print + Clock), s: &[u8], at: usize) -> bool
     requires { at ≤ length s.now }
 {
-    streams::write_all(STDOUT_FILENO, &s[..at])
+    streams::write_all(rt, rt, &s[..at])
 }
 
 // Writes what is in the buffer. Gives whether all of it was written.
-pub fn flush(out: &[u8; 65536], at: usize) -> bool
+pub fn flush(rt: &(impl Print + Clock), out: &[u8; 65536], at: usize) -> bool
     requires { at ≤ 65536 }
 {
-    write_front(out, at)
+    write_front(rt, out, at)
 }
 
 // Makes room for a line.
-pub fn room(out: &[u8; 65536], at: usize) -> Buffered
+pub fn room(rt: &(impl Print + Clock), out: &[u8; 65536], at: usize) -> Buffered
     requires { at ≤ 65536 }
     ensures { result.at + 66 ≤ 65536 }
 {
     if at <= NEARLY_FULL {
         return Buffered { at, failed: false };
     }
-    let written = flush(out, at);
+    let written = flush(rt, out, at);
     Buffered {
         at: 0,
         failed: !written,

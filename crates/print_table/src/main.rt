@@ -10,8 +10,9 @@ mod streams;
 ghost use Rattle.std.specs.Prelude.{◌+◌, ◌≤◌, ◌<◌, length};
 
 use crate::lines::Buffered;
-use libc::{STDERR_FILENO, STDIN_FILENO, STDOUT_FILENO};
 use plans::{Ask, Number};
+use std::process::ExitCode;
+use std::rt::{Clock, Files};
 
 // Image, kind and parameter.
 const INPUT: usize = 2066;
@@ -21,12 +22,12 @@ const KIND_AT: usize = 2064;
 const PARAMETER_AT: usize = 2065;
 
 // The line of a refusal. Gives, as all below, whether everything was written.
-fn print_refusal(number: u64) -> bool {
-    let mut out = io::large_buffer();
+fn print_refusal(rt: &(impl Print + Clock), number: u64) -> bool {
+    let mut out = [0u8; 65536];
     let named = lines::put(&mut out, 0, b"refused ");
     let at = lines::put_number(&mut out, named, number);
     let end = lines::put(&mut out, at, b"\n");
-    lines::flush(&out, end)
+    lines::flush(rt, &out, end)
 }
 
 // The line `Q bits constant`.
@@ -41,7 +42,13 @@ fn put_head(out: &mut [u8; 65536], bits: i64, constant: i64) -> usize
 }
 
 // The lines of row i, up to the first write that fails. Number k of it stands at the pair (i, i + k), the first at bit i alone.
-fn put_row(out: &mut [u8; 65536], start: usize, i: u64, row: &[i64]) -> Buffered
+fn put_row(
+    rt: &(impl Print + Clock),
+    out: &mut [u8; 65536],
+    start: usize,
+    i: u64,
+    row: &[i64],
+) -> Buffered
     requires { (start ≤ 65536) × (i + length row.now ≤ 16384) }
     ensures { result.at ≤ 65536 }
 {
@@ -50,7 +57,7 @@ fn put_row(out: &mut [u8; 65536], start: usize, i: u64, row: &[i64]) -> Buffered
     while k < row.len() {
         let z = row[k];
         if z != 0 {
-            let place = lines::room(out, at);
+            let place = lines::room(rt, out, at);
             if place.failed {
                 return place;
             }
@@ -63,6 +70,7 @@ fn put_row(out: &mut [u8; 65536], start: usize, i: u64, row: &[i64]) -> Buffered
 
 // Row i, filled in the lent places and printed at once: the whole table is never held.
 fn show_row(
+    rt: &(impl Print + Clock),
     out: &mut [u8; 65536],
     start: usize,
     image: &[u8],
@@ -74,11 +82,12 @@ fn show_row(
     ensures { result.at ≤ 65536 }
 {
     let row = plans::row(image, ask, i, places);
-    put_row(out, start, i, &row[..])
+    put_row(rt, out, start, i, &row[..])
 }
 
 // An array of known length is lent as such, so that the loop above needs no fact about it.
 fn show_row_in(
+    rt: &(impl Print + Clock),
     out: &mut [u8; 65536],
     start: usize,
     image: &[u8],
@@ -89,7 +98,7 @@ fn show_row_in(
     requires { (start ≤ 65536) × (i < 8192) }
     ensures { result.at ≤ 65536 }
 {
-    show_row(out, start, image, ask, i, places)
+    show_row(rt, out, start, image, ask, i, places)
 }
 
 // There is a row for each bit; no table has more than 8,192.
@@ -101,46 +110,46 @@ fn row_count(bits: i64) -> u64
 }
 
 // The table, row by row.
-fn show_table(image: &[u8], ask: Ask, bits: i64, constant: i64) -> bool {
-    let mut out = io::large_buffer();
+fn show_table(rt: &(impl Print + Clock), image: &[u8], ask: Ask, bits: i64, constant: i64) -> bool {
+    let mut out = [0u8; 65536];
     let mut places = [0i64; 8192];
     let mut at = put_head(&mut out, bits, constant);
     let rows = row_count(bits);
     let mut i: u64 = 0;
     while i < rows {
-        let place = show_row_in(&mut out, at, image, ask, i, &mut places);
+        let place = show_row_in(rt, &mut out, at, image, ask, i, &mut places);
         if place.failed {
             return false;
         }
         at = place.at;
         i += 1;
     }
-    lines::flush(&out, at)
+    lines::flush(rt, &out, at)
 }
 
 // The constant is refused where the bit count is, and nowhere else.
-fn show_bits(image: &[u8], ask: Ask, bits: i64) -> bool {
+fn show_bits(rt: &(impl Print + Clock), image: &[u8], ask: Ask, bits: i64) -> bool {
     let constant = plans::constant(image, ask);
     match constant {
-        Number::Refused(number) => print_refusal(number),
-        Number::Value(z) => show_table(image, ask, bits, z),
+        Number::Refused(number) => print_refusal(rt, number),
+        Number::Value(z) => show_table(rt, image, ask, bits, z),
     }
 }
 
 // The table or the refusal.
-fn show(image: &[u8], ask: Ask) -> bool {
+fn show(rt: &(impl Print + Clock), image: &[u8], ask: Ask) -> bool {
     let bits = plans::bit_count(image, ask);
     match bits {
-        Number::Refused(number) => print_refusal(number),
-        Number::Value(count) => show_bits(image, ask, count),
+        Number::Refused(number) => print_refusal(rt, number),
+        Number::Value(count) => show_bits(rt, image, ask, count),
     }
 }
 
 // The image stands in front.
-fn show_front(input: &[u8], ask: Ask) -> bool
+fn show_front(rt: &(impl Print + Clock), input: &[u8], ask: Ask) -> bool
     requires { 2064 ≤ length input.now }
 {
-    show(&input[..KIND_AT], ask)
+    show(rt, &input[..KIND_AT], ask)
 }
 
 // What the two bytes behind the image ask for; the margin is 0.
@@ -153,33 +162,36 @@ fn asked(kind: u8, parameter: u8) -> Ask {
 }
 
 // The answer to an input, of so many bytes. It is lent with one place more than it has, so that a longer one is seen.
-fn answer(input: &[u8; 2067], len: usize) -> bool {
+fn answer(rt: &(impl Print + Clock), input: &[u8; 2067], len: usize) -> bool {
     if len != INPUT {
-        return print_refusal(1);
+        return print_refusal(rt, 1);
     }
-    show_front(input, asked(input[KIND_AT], input[PARAMETER_AT]))
+    show_front(rt, input, asked(input[KIND_AT], input[PARAMETER_AT]))
 }
 
-// The same, with standard output closed: some file systems tell only then that what they took is lost.
-fn answer_and_close(input: &[u8; 2067], len: usize) -> bool {
-    if !answer(input, len) {
+// The same, where what was written is also kept: some file systems tell only late that what they took is lost.
+fn answer_and_keep(rt: &(impl Print + Clock + Files), input: &[u8; 2067], len: usize) -> bool {
+    if !answer(rt, input, len) {
         return false;
     }
-    libc::close(STDOUT_FILENO) == 0
+    streams::is_kept(rt)
 }
 
-// A program has no exit status of its own in Rattle, so that standard error has to tell what went wrong.
-fn main() {
+// The exit status tells whether the table or the refusal is whole, and standard error what went wrong.
+fn main(rt: HostRuntime) -> ExitCode {
     let mut bytes = [0u8; 2067];
-    let input = streams::read_all(STDIN_FILENO, &mut bytes);
+    let input = streams::read_all(&rt, &mut rt.stdin(), &mut bytes);
     if input.failed {
-        streams::write_all(STDERR_FILENO, b"print_table: input failed: no table\n");
-        return;
+        streams::write_all(&rt, &rt.stderr(), b"print_table: input failed: no table\n");
+        return ExitCode::FAILURE;
     }
-    if !answer_and_close(&bytes, input.len) {
+    if !answer_and_keep(&rt, &bytes, input.len) {
         streams::write_all(
-            STDERR_FILENO,
+            &rt,
+            &rt.stderr(),
             b"print_table: output failed: incomplete table\n",
         );
+        return ExitCode::FAILURE;
     }
+    ExitCode::SUCCESS
 }

@@ -1,90 +1,82 @@
 // Input and output that are whole or said not to be: after a read or a write that fails there is no other.
-ghost use Rattle.std.specs.Prelude.{◌+◌, ◌≤◌, length};
+ghost use Rattle.std.specs.Prelude.{◌+◌, ◌≤◌, length, IfOk};
 
-use libc::{EAGAIN, EINTR};
+use std::fs::{OpenFile, OpenOptions};
+use std::io::{Error, ErrorKind, Read};
+use std::rt::{Clock, Files};
+use std::time::Duration;
+use std::{fs, io, thread};
 
 // So often a call that moved nothing and may succeed later is tried again, a millisecond after the last time: about ten seconds in which nothing moves.
 const TRIES: usize = 10000;
 
+// Standard output by its path.
+const OUTPUT: &str = "/dev/stdout";
+
 // Whether a failed call may succeed later: a signal came first, or a pipe that does not wait for its other end is full or empty.
-fn may_pass(error: i32) -> bool {
-    if error == EINTR {
+fn may_pass(error: &Error) -> bool {
+    let kind = error.kind();
+    if kind == ErrorKind::Interrupted {
         return true;
     }
-    error == EAGAIN
+    kind == ErrorKind::WouldBlock
 }
 
 // Waits for a millisecond.
-fn pause() {
-    let asked = libc::types::timespec {
-        tv_sec: 0,
-        tv_nsec: 1000000,
-    };
-    let mut left = libc::types::timespec {
-        tv_sec: 0,
-        tv_nsec: 0,
-    };
-    libc::nanosleep(&asked, &mut left);
+fn pause(rt: &impl Clock) {
+    thread::sleep(rt, Duration::from_millis(1));
 }
 
 // Whether a call that has just failed is worth another try; it waits before it says so.
-fn again() -> bool {
-    if !may_pass(os::errno()) {
+fn again(rt: &impl Clock, error: &Error) -> bool {
+    if !may_pass(error) {
         return false;
     }
-    pause();
+    pause(rt);
     true
 }
 
 // One write of the bytes from `done` on. Gives how many of them were taken.
-fn write_from(fd: i32, bytes: &[u8], done: usize) -> usize
+fn write_from(to: &impl Print, bytes: &[u8], done: usize) -> io::Result<usize>
     requires { done ≤ length bytes.now }
-    ensures { done + result ≤ length bytes.now }
+    ensures { IfOk result (λ n. done + n ≤ length bytes.now) }
 {
-    let rest = &bytes[done..];
-    io::count(libc::write(fd, rest), rest)
+    to.write_some(&bytes[done..])
 }
 
 // Writes all the bytes and gives true, or stops at the first write that fails and gives false: then the first of them may have been written.
-pub fn write_all(fd: i32, bytes: &[u8]) -> bool {
+pub fn write_all(rt: &impl Clock, to: &impl Print, bytes: &[u8]) -> bool {
     let mut done: usize = 0;
     let mut tries = TRIES;
     while done < bytes.len() {
-        let taken = write_from(fd, bytes, done);
-        if taken == 0 {
-            if tries == 0 {
-                return false;
+        match write_from(to, bytes, done) {
+            Ok(taken) => {
+                if taken == 0 {
+                    return false;
+                }
+                done += taken;
+                tries = TRIES;
             }
-            if !again() {
-                return false;
+            Err(error) => {
+                if tries == 0 {
+                    return false;
+                }
+                if !again(rt, &error) {
+                    return false;
+                }
+                tries -= 1;
             }
-            tries -= 1;
-        } else {
-            done += taken;
-            tries = TRIES;
         }
     }
     true
 }
 
-// What a read gave: how many bytes, and whether the input has ended.
-#[derive(Clone, Copy)]
-struct Got {
-    count: usize,
-    ended: bool,
-}
-
-// One read into the places from `done` on.
-fn read_to(fd: i32, bytes: &mut [u8], done: usize) -> Got
+// One read into the places from `done` on. Gives how many bytes it put there, 0 where the input has ended.
+fn read_to(from: &mut impl Read, bytes: &mut [u8], done: usize) -> io::Result<usize>
     requires { done ≤ length bytes.old }
-    ensures { done + result.count ≤ length bytes.old }
+    ensures { IfOk result (λ n. done + n ≤ length bytes.old) }
 {
-    let rest = &mut bytes[done..];
-    let got = libc::read(fd, rest);
-    Got {
-        count: io::count(got, rest),
-        ended: got == 0,
-    }
+    from.read(&mut bytes[done..])
 }
 
 // How many bytes were read, and whether a read failed before the input had ended.
@@ -105,26 +97,45 @@ fn failed_at(len: usize) -> Input {
 }
 
 // Reads until the places are full or the input ends, or stops at the first read that fails.
-pub fn read_all(fd: i32, bytes: &mut [u8]) -> Input {
+pub fn read_all(rt: &impl Clock, from: &mut impl Read, bytes: &mut [u8]) -> Input {
     let mut done: usize = 0;
     let mut tries = TRIES;
     while done < bytes.len() {
-        let got = read_to(fd, bytes, done);
-        if got.ended {
-            return whole(done);
-        }
-        if got.count == 0 {
-            if tries == 0 {
-                return failed_at(done);
+        match read_to(from, bytes, done) {
+            Ok(count) => {
+                if count == 0 {
+                    return whole(done);
+                }
+                done += count;
+                tries = TRIES;
             }
-            if !again() {
-                return failed_at(done);
+            Err(error) => {
+                if tries == 0 {
+                    return failed_at(done);
+                }
+                if !again(rt, &error) {
+                    return failed_at(done);
+                }
+                tries -= 1;
             }
-            tries -= 1;
-        } else {
-            done += got.count;
-            tries = TRIES;
         }
     }
     whole(done)
+}
+
+// The file that standard output goes to, where it is a file and can be opened by its path.
+fn file_of_output<R: Files>(rt: &R) -> Option<R::File> {
+    let found = fs::metadata(rt, OUTPUT).ok()?;
+    if !found.is_file() {
+        return None;
+    }
+    OpenOptions::new().write(true).open(rt, OUTPUT).ok()
+}
+
+// Whether what standard output took is kept, as far as the system can say: of a file, that it has reached its device, since some file systems tell only then that it is lost.
+pub fn is_kept(rt: &impl Files) -> bool {
+    match file_of_output(rt) {
+        Some(file) => file.sync_data().is_ok(),
+        None => true,
+    }
 }

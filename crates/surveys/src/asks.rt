@@ -3,6 +3,7 @@ ghost use Rattle.std.specs.Prelude.{◌≤◌};
 
 use crate::{bytes, lines, words};
 use plans::Ask;
+use std::io;
 
 // How many numbers of a row are printed.
 const SHOWN: usize = 12;
@@ -17,21 +18,22 @@ pub fn asked(n: &[u64; 8], margin: u64) -> Ask {
 }
 
 // `kind K P`: the bit count, the constant and A.
-pub fn show_kind(image: &[u8], ask: Ask) {
-    lines::words(b":");
-    lines::answer(plans::bit_count(image, ask));
-    lines::answer(plans::constant(image, ask));
-    lines::answer(plans::penalty(image, ask));
+pub fn show_kind(rt: &impl Print, image: &[u8], ask: Ask) -> io::Result<()> {
+    lines::words(rt, b":")?;
+    lines::answer(rt, plans::bit_count(image, ask))?;
+    lines::answer(rt, plans::constant(image, ask))?;
+    lines::answer(rt, plans::penalty(image, ask))
 }
 
 // The first numbers of a slice.
-fn print_front(places: &[i64]) {
+fn print_front(rt: &impl Print, places: &[i64]) -> io::Result<()> {
     let count = bytes::within(places.len(), SHOWN);
     let mut k = 0;
     while k < count {
-        lines::signed(places[k]);
+        lines::signed(rt, places[k])?;
         k += 1;
     }
+    Ok(())
 }
 
 // How many numbers the row has that comes back.
@@ -61,60 +63,100 @@ fn differing(places: &[i64], others: &[i64]) -> usize {
 
 // The number with which the row is refused, and the length of the part that comes back; the number of the call that fills other places, in how many places what the two calls leave differs, and what
 // the first one leaves.
-fn row_in(image: &[u8], ask: Ask, i: u64, places: &mut [i64], others: &mut [i64]) {
-    lines::named(b": ", plans::row_refusal(image, ask, i, places));
-    lines::named(b" ", row_length(image, ask, i, places));
-    lines::named(b" ", plans::fill_row(image, ask, i, others));
-    lines::named(b" ", differing(places, others) as u64);
-    print_front(places);
+fn row_in(
+    rt: &impl Print,
+    image: &[u8],
+    ask: Ask,
+    i: u64,
+    places: &mut [i64],
+    others: &mut [i64],
+) -> io::Result<()> {
+    lines::named(rt, b": ", plans::row_refusal(image, ask, i, places))?;
+    lines::named(rt, b" ", row_length(image, ask, i, places))?;
+    lines::named(rt, b" ", plans::fill_row(image, ask, i, others))?;
+    lines::named(rt, b" ", differing(places, others) as u64)?;
+    print_front(rt, places)
 }
 
 // `fill K P I COUNT`: row I, in so many places.
-pub fn show_row(image: &[u8], ask: Ask, n: &[u64; 8]) {
+pub fn show_row(rt: &impl Print, image: &[u8], ask: Ask, n: &[u64; 8]) -> io::Result<()> {
     let mut places = [77i64; 8192];
     let mut others = [77i64; 8192];
     let count = bytes::within(n[4] as usize, 8192);
-    row_in(image, ask, n[3], &mut places[..count], &mut others[..count]);
+    row_in(
+        rt,
+        image,
+        ask,
+        n[3],
+        &mut places[..count],
+        &mut others[..count],
+    )
 }
 
 // The energy, then the weight and how many meters were repaired, and the plan.
-fn decode_in(image: &[u8], ask: Ask, bits: &[u8], plan: &mut [u8]) {
-    lines::words(b":");
-    lines::answer(plans::energy(image, ask, bits));
-    lines::decoded(plans::decode(image, ask, bits, plan));
-    bytes::print(plan);
+fn decode_in(
+    rt: &impl Print,
+    image: &[u8],
+    ask: Ask,
+    bits: &[u8],
+    plan: &mut [u8],
+) -> io::Result<()> {
+    lines::words(rt, b":")?;
+    lines::answer(rt, plans::energy(image, ask, bits))?;
+    lines::decoded(rt, plans::decode(image, ask, bits, plan))?;
+    bytes::print(rt, plan)
 }
 
 // `decode K P BITS COUNT`: the bits, with so many bytes for a plan.
-pub fn show_decode(image: &[u8], ask: Ask, n: &[u64; 8], line: &[u8]) {
+pub fn show_decode(
+    rt: &impl Print,
+    image: &[u8],
+    ask: Ask,
+    n: &[u64; 8],
+    line: &[u8],
+) -> io::Result<()> {
     let mut bits = [7u8; 128];
     let mut plan = [7u8; 128];
     let given = words::digits_of(line, &mut bits);
     let count = bytes::within(n[4] as usize, 128);
     decode_in(
+        rt,
         image,
         ask,
         bytes::front_of(&bits, given),
         &mut plan[..count],
-    );
+    )
 }
 
 // The number returned, and the bits.
-fn encode_in(image: &[u8], ask: Ask, plan: &[u8], bits: &mut [u8]) {
-    lines::named(b": ", plans::encode(image, ask, plan, bits));
-    bytes::print(bits);
+fn encode_in(
+    rt: &impl Print,
+    image: &[u8],
+    ask: Ask,
+    plan: &[u8],
+    bits: &mut [u8],
+) -> io::Result<()> {
+    lines::named(rt, b": ", plans::encode(image, ask, plan, bits))?;
+    bytes::print(rt, bits)
 }
 
 // `encode K P PLAN COUNT`: the plan, with so many bytes for bits.
-pub fn show_encode(image: &[u8], ask: Ask, n: &[u64; 8], line: &[u8]) {
+pub fn show_encode(
+    rt: &impl Print,
+    image: &[u8],
+    ask: Ask,
+    n: &[u64; 8],
+    line: &[u8],
+) -> io::Result<()> {
     let mut plan = [7u8; 128];
     let mut bits = [7u8; 128];
     let given = words::digits_of(line, &mut plan);
     let count = bytes::within(n[4] as usize, 128);
     encode_in(
+        rt,
         image,
         ask,
         bytes::front_of(&plan, given),
         &mut bits[..count],
-    );
+    )
 }

@@ -3,6 +3,7 @@ ghost use Rattle.std.specs.Prelude.{◌≤◌};
 
 use crate::{bytes, lines};
 use plans::{Ask, Decoded, Number};
+use std::io;
 
 // The lower of an energy and the least so far, which is below 0 where there is none.
 fn lower(least: i64, energy: Number) -> i64 {
@@ -74,18 +75,33 @@ fn try_one(
 }
 
 // How many there are, how many are plans, how many give 12, and the least energy.
-fn print_best(count: u64, accepted: u64, refused: u64, least: i64) {
-    lines::named(b": of ", count);
-    lines::named(b" plans ", accepted);
-    lines::named(b", give 12 ", refused);
+fn print_best(
+    rt: &impl Print,
+    count: u64,
+    accepted: u64,
+    refused: u64,
+    least: i64,
+) -> io::Result<()> {
+    lines::named(rt, b": of ", count)?;
+    lines::named(rt, b" plans ", accepted)?;
+    lines::named(rt, b", give 12 ", refused)?;
     if 0 <= least {
-        lines::words(b", least energy");
-        lines::signed(least);
+        lines::words(rt, b", least energy")?;
+        lines::signed(rt, least)?;
     }
+    Ok(())
 }
 
 // Tries as many as the line says. Bits that a refusal left as they were are no code (7 is no bit) or that of an earlier plan.
-fn try_all(image: &[u8], letter: u8, ask: Ask, n: &[u64; 8], plan: &mut [u8], bits: &mut [u8]) {
+fn try_all(
+    rt: &impl Print,
+    image: &[u8],
+    letter: u8,
+    ask: Ask,
+    n: &[u64; 8],
+    plan: &mut [u8],
+    bits: &mut [u8],
+) -> io::Result<()> {
     let count = bytes::within(n[6] as usize, 100000);
     let mut accepted: u64 = 0;
     let mut refused: u64 = 0;
@@ -98,21 +114,22 @@ fn try_all(image: &[u8], letter: u8, ask: Ask, n: &[u64; 8], plan: &mut [u8], bi
         refused = counted(refused, number, 12);
         k += 1;
     }
-    print_best(count as u64, accepted, refused, least);
+    print_best(rt, count as u64, accepted, refused, least)
 }
 
 // `plans K P BYTES BITS TOP COUNT`: all plans of so many bytes, each 0 to TOP, of which there are COUNT. `minimum` with the same numbers: all assignments.
-pub fn show(image: &[u8], letter: u8, ask: Ask, n: &[u64; 8]) {
+pub fn show(rt: &impl Print, image: &[u8], letter: u8, ask: Ask, n: &[u64; 8]) -> io::Result<()> {
     let mut plan = [7u8; 128];
     let mut bits = [7u8; 128];
     let length = bytes::within(n[3] as usize, 128);
     let count = bytes::within(n[4] as usize, 128);
     try_all(
+        rt,
         image,
         letter,
         ask,
         n,
         &mut plan[..length],
         &mut bits[..count],
-    );
+    )
 }

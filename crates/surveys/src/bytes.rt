@@ -2,6 +2,7 @@
 ghost use Rattle.std.specs.Prelude.{◌≤◌, length};
 
 use crate::lines;
+use std::io;
 
 // The longest slice that is lent as an image: one byte more than an image has.
 const LONGEST: usize = 2065;
@@ -58,16 +59,17 @@ pub fn altered(copy: &[u8; 2065], s: &[u8]) -> usize {
 }
 
 // One byte.
-fn print_byte(byte: u8) {
-    lines::named(b"", byte as u64);
+fn print_byte(rt: &impl Print, byte: u8) -> io::Result<()> {
+    lines::named(rt, b"", byte as u64)
 }
 
 // A space and the bytes as digits.
-pub fn print(bytes: &[u8]) {
-    lines::words(b" ");
+pub fn print(rt: &impl Print, bytes: &[u8]) -> io::Result<()> {
+    lines::words(rt, b" ")?;
     let mut i = 0;
     while i < bytes.len() {
-        print_byte(bytes[i]);
+        print_byte(rt, bytes[i])?;
         i += 1;
     }
+    Ok(())
 }

@@ -2,6 +2,7 @@
 ghost use Rattle.std.specs.Prelude.{◌≤◌};
 
 use crate::{bytes, lines, readings};
+use std::io;
 
 // Makes the edit: `begin N`, `remove U V` or `add U V W`.
 fn edit(image: &mut [u8], letter: u8, n: &[u64; 8]) -> u64 {
@@ -15,16 +16,16 @@ fn edit(image: &mut [u8], letter: u8, n: &[u64; 8]) -> u64 {
 }
 
 // The number returned, and how many bytes were altered.
-fn print_result(returned: u64, altered: usize) {
-    lines::named(b": ", returned);
-    lines::named(b", altered ", altered as u64);
+fn print_result(rt: &impl Print, returned: u64, altered: usize) -> io::Result<()> {
+    lines::named(rt, b": ", returned)?;
+    lines::named(rt, b", altered ", altered as u64)
 }
 
 // One edit.
-pub fn show(image: &mut [u8], letter: u8, n: &[u64; 8]) {
+pub fn show(rt: &impl Print, image: &mut [u8], letter: u8, n: &[u64; 8]) -> io::Result<()> {
     let old = bytes::copy_of(image);
     let returned = edit(image, letter, n);
-    print_result(returned, bytes::altered(&old, image));
+    print_result(rt, returned, bytes::altered(&old, image))
 }
 
 // The meters round a circle: 1 to 48.
@@ -57,7 +58,7 @@ fn add_link(image: &mut [u8], n: &[u64; 8], k: u64) -> u64
 }
 
 // `circle N STEP W COUNT`: such links from so many of N meters, and how many are accepted.
-pub fn circle(image: &mut [u8], n: &[u64; 8]) {
+pub fn circle(rt: &impl Print, image: &mut [u8], n: &[u64; 8]) -> io::Result<()> {
     let count = bytes::within(n[4] as usize, 48);
     let mut accepted: u64 = 0;
     let mut k: usize = 0;
@@ -65,7 +66,7 @@ pub fn circle(image: &mut [u8], n: &[u64; 8]) {
         accepted += add_link(image, n, k as u64);
         k += 1;
     }
-    lines::named(b": accepted ", accepted);
+    lines::named(rt, b": accepted ", accepted)
 }
 
 // `set AT BYTE`: one byte.
@@ -77,24 +78,24 @@ pub fn set(image: &mut [u8], n: &[u64; 8]) {
 }
 
 // What the calls return, and how many bytes they altered together.
-fn try_calls(image: &mut [u8]) {
+fn try_calls(rt: &impl Print, image: &mut [u8]) -> io::Result<()> {
     let old = bytes::copy_of(image);
-    lines::named(b": check ", site::check(image));
-    lines::named(b", add ", plans::add(image, 3, 4, 9));
-    lines::named(b", remove ", plans::remove(image, 1, 2));
-    lines::named(b", read ", readings::refusal(image));
-    lines::named(b", altered ", bytes::altered(&old, image) as u64);
+    lines::named(rt, b": check ", site::check(image))?;
+    lines::named(rt, b", add ", plans::add(image, 3, 4, 9))?;
+    lines::named(rt, b", remove ", plans::remove(image, 1, 2))?;
+    lines::named(rt, b", read ", readings::refusal(image))?;
+    lines::named(rt, b", altered ", bytes::altered(&old, image) as u64)
 }
 
 // Sets the byte and makes the calls.
-fn try_in(image: &mut [u8], n: &[u64; 8]) {
+fn try_in(rt: &impl Print, image: &mut [u8], n: &[u64; 8]) -> io::Result<()> {
     set(image, n);
-    try_calls(image);
+    try_calls(rt, image)
 }
 
 // `try AT BYTE`: the calls, of a copy of the image with one byte set.
-pub fn try_byte(image: &[u8], n: &[u64; 8]) {
+pub fn try_byte(rt: &impl Print, image: &[u8], n: &[u64; 8]) -> io::Result<()> {
     let mut copy = bytes::copy_of(image);
     let lent = bytes::within(image.len(), 2065);
-    try_in(&mut copy[..lent], n);
+    try_in(rt, &mut copy[..lent], n)
 }

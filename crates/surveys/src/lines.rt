@@ -1,16 +1,16 @@
 // Prints what lines are made of.
-use libc::STDOUT_FILENO;
 use plans::{Decoded, Number};
+use std::io;
 
 // Words alone.
-pub fn words(text: &[u8]) {
-    io::write_all(STDOUT_FILENO, text);
+pub fn words(rt: &impl Print, text: &[u8]) -> io::Result<()> {
+    rt.write_all(text)
 }
 
 // Words and the number that they name.
-pub fn named(text: &[u8], n: u64) {
-    words(text);
-    io::print_decimal(STDOUT_FILENO, n);
+pub fn named(rt: &impl Print, text: &[u8], n: u64) -> io::Result<()> {
+    words(rt, text)?;
+    rt.print(n)
 }
 
 // The absolute value, of the least number too: -1 - z fits where 0 - z does not.
@@ -22,30 +22,29 @@ fn magnitude(z: i64) -> u64 {
     z as u64
 }
 
-// A space and a number with its sign: the crate io prints none.
-pub fn signed(z: i64) {
+// A space and a number with its sign.
+pub fn signed(rt: &impl Print, z: i64) -> io::Result<()> {
     if z < 0 {
-        named(b" -", magnitude(z));
-        return;
+        return named(rt, b" -", magnitude(z));
     }
-    named(b" ", magnitude(z));
+    named(rt, b" ", magnitude(z))
 }
 
 // A value or a refusal.
-pub fn answer(given: Number) {
+pub fn answer(rt: &impl Print, given: Number) -> io::Result<()> {
     match given {
-        Number::Value(z) => signed(z),
-        Number::Refused(number) => named(b" refused ", number),
+        Number::Value(z) => signed(rt, z),
+        Number::Refused(number) => named(rt, b" refused ", number),
     }
 }
 
 // A plan's weight and how many meters were repaired, or a refusal.
-pub fn decoded(given: Decoded) {
+pub fn decoded(rt: &impl Print, given: Decoded) -> io::Result<()> {
     match given {
         Decoded::Plan { weight, repaired } => {
-            named(b" ", weight);
-            named(b" ", repaired);
+            named(rt, b" ", weight)?;
+            named(rt, b" ", repaired)
         }
-        Decoded::Refused(number) => named(b" refused ", number),
+        Decoded::Refused(number) => named(rt, b" refused ", number),
     }
 }

@@ -10,12 +10,16 @@ mod lines;
 mod readings;
 mod words;
 
-ghost use Rattle.std.specs.Prelude.{◌≤◌, length};
+ghost use Rattle.std.specs.Prelude.{◌≤◌, length, IfOk};
 
-use libc::STDIN_FILENO;
 use plans::Ask;
+use std::io;
+use std::io::Read;
 
 const NEWLINE: u8 = 10;
+
+// So many bytes of input are read at most.
+const ROOM: u64 = 32768;
 
 // What one line leaves for those after it: how many bytes are lent as the image, and the margin of what is asked.
 #[derive(Clone, Copy)]
@@ -40,66 +44,83 @@ fn line_end(text: &[u8], start: usize) -> usize
 }
 
 // What the library answers, by the first letter of the line; there is nothing to answer to a remark.
-fn answer(image: &mut [u8], letter: u8, ask: Ask, n: &[u64; 8], line: &[u8]) {
+fn answer(
+    rt: &impl Print,
+    image: &mut [u8],
+    letter: u8,
+    ask: Ask,
+    n: &[u64; 8],
+    line: &[u8],
+) -> io::Result<()> {
     match letter {
-        b'a' | b'b' | b'r' => edits::show(image, letter, n),
-        b'c' => edits::circle(image, n),
-        b's' => edits::set(image, n),
-        b't' => edits::try_byte(image, n),
-        b'i' => readings::show(image),
-        b'k' => asks::show_kind(image, ask),
-        b'f' => asks::show_row(image, ask, n),
-        b'd' => asks::show_decode(image, ask, n, line),
-        b'e' => asks::show_encode(image, ask, n, line),
-        b'm' | b'p' => bests::show(image, letter, ask, n),
-        _ => (),
+        b'a' | b'b' | b'r' => edits::show(rt, image, letter, n),
+        b'c' => edits::circle(rt, image, n),
+        b't' => edits::try_byte(rt, image, n),
+        b'i' => readings::show(rt, image),
+        b'k' => asks::show_kind(rt, image, ask),
+        b'f' => asks::show_row(rt, image, ask, n),
+        b'd' => asks::show_decode(rt, image, ask, n, line),
+        b'e' => asks::show_encode(rt, image, ask, n, line),
+        b'm' | b'p' => bests::show(rt, image, letter, ask, n),
+        b's' => {
+            edits::set(image, n);
+            Ok(())
+        }
+        _ => Ok(()),
     }
 }
 
 // Carries out one line. Gives what holds from then on.
-fn carry_out(image: &mut [u8], lent: usize, margin: u64, line: &[u8]) -> Setting
+fn carry_out(
+    rt: &impl Print,
+    image: &mut [u8],
+    lent: usize,
+    margin: u64,
+    line: &[u8],
+) -> io::Result<Setting>
     requires { lent ≤ length image.old }
-    ensures { result.lent ≤ length image.old }
+    ensures { IfOk result (λ s. s.lent ≤ length image.old) }
 {
-    lines::words(line);
+    lines::words(rt, line)?;
     let letter = words::first(line);
     let n = words::numbers_of(line);
     if letter == b'l' {
-        lines::words(b"\n");
+        lines::words(rt, b"\n")?;
         let lent = bytes::within(n[1] as usize, image.len());
-        return Setting { lent, margin };
+        return Ok(Setting { lent, margin });
     }
     if letter == b'w' {
-        lines::words(b"\n");
-        return Setting { lent, margin: n[1] };
+        lines::words(rt, b"\n")?;
+        return Ok(Setting { lent, margin: n[1] });
     }
     let ask = asks::asked(&n, margin);
-    answer(&mut image[..lent], letter, ask, &n, line);
-    lines::words(b"\n");
-    Setting { lent, margin }
+    answer(rt, &mut image[..lent], letter, ask, &n, line)?;
+    lines::words(rt, b"\n")?;
+    Ok(Setting { lent, margin })
 }
 
 // Line by line; the last one may have no end.
-fn carry_out_all(text: &[u8]) {
+fn carry_out_all(rt: &impl Print, text: &[u8]) -> io::Result<()> {
     let mut image = [0u8; 2065];
     let mut lent: usize = 2064;
     let mut margin: u64 = 0;
     let mut at: usize = 0;
     while at < text.len() {
         let end = line_end(text, at);
-        let after = carry_out(&mut image, lent, margin, &text[at..end]);
+        let after = carry_out(rt, &mut image, lent, margin, &text[at..end])?;
         lent = after.lent;
         margin = after.margin;
         if end == text.len() {
-            return;
+            return Ok(());
         }
         at = end + 1;
     }
+    Ok(())
 }
 
 // The whole input, for which there is room.
-fn main() {
-    let mut text = [0u8; 32768];
-    let n = io::read_full(STDIN_FILENO, &mut text);
-    carry_out_all(&text[..n]);
+fn main(rt: HostRuntime) -> io::Result<()> {
+    let mut text = Vec::new(rt.alloc());
+    rt.reader().take(ROOM).read_to_end(&mut text)?;
+    carry_out_all(&rt, text.as_slice())
 }

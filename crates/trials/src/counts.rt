@@ -1,5 +1,5 @@
 // How much was compared and how much differs, and the draws. Of subject k, place 2k of the counts has how many were compared and place 2k + 1 how many of these differ; the last place has the seed.
-use libc::STDOUT_FILENO;
+use std::io;
 
 // The subjects. A call that returns a number is counted by the number that is expected, too.
 pub const SITES: usize = 0;
@@ -57,9 +57,9 @@ pub fn below(counts: &mut [u64; 130], n: usize) -> usize {
 }
 
 // Words and the number that they name.
-fn named(text: &[u8], n: u64) {
-    io::write_all(STDOUT_FILENO, text);
-    io::print_decimal(STDOUT_FILENO, n);
+fn named(rt: &impl Print, text: &[u8], n: u64) -> io::Result<()> {
+    rt.write_all(text)?;
+    rt.print(n)
 }
 
 // Name k of names of 7 letters each.
@@ -73,32 +73,32 @@ fn name_of<'a>(names: &'a [u8], k: usize) -> &'a [u8] {
 }
 
 // The front of a line: a subject's name, or the number expected.
-fn title(k: usize) {
+fn title(rt: &impl Print, k: usize) -> io::Result<()> {
     if k < NUMBERS {
         let names = b"sites  edits  tables rows   energy decode lists  codes  least  ";
-        io::write_all(STDOUT_FILENO, name_of(names, k));
-        return;
+        return rt.write_all(name_of(names, k));
     }
-    named(b"number ", (k - NUMBERS) as u64);
+    named(rt, b"number ", (k - NUMBERS) as u64)
 }
 
 // The line of a subject, where something was compared: not every number up to the highest is given.
-fn line(counts: &[u64; 130], k: usize) {
+fn line(rt: &impl Print, counts: &[u64; 130], k: usize) -> io::Result<()> {
     let at = k % 64 * 2;
     if counts[at] == 0 {
-        return;
+        return Ok(());
     }
-    title(k);
-    named(b": ", counts[at]);
-    named(b" compared, ", counts[at + 1]);
-    io::write_all(STDOUT_FILENO, b" differ\n");
+    title(rt, k)?;
+    named(rt, b": ", counts[at])?;
+    named(rt, b" compared, ", counts[at + 1])?;
+    rt.write_all(b" differ\n")
 }
 
 // All lines.
-pub fn show(counts: &[u64; 130]) {
+pub fn show(rt: &impl Print, counts: &[u64; 130]) -> io::Result<()> {
     let mut k: usize = 0;
     while k < ALL {
-        line(counts, k);
+        line(rt, counts, k)?;
         k += 1;
     }
+    Ok(())
 }

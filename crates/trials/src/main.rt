@@ -18,11 +18,13 @@ mod rows;
 mod sites;
 mod threes;
 
+use std::io;
+
 // The small sites, the trees of three meters, the large sites, then what was compared.
-fn main() {
+fn main(rt: HostRuntime) -> io::Result<()> {
     let mut counts = [0u64; 130];
     sites::compare_all(&mut counts);
     threes::compare_all(&mut counts);
     large::compare_all(&mut counts);
-    counts::show(&counts);
+    counts::show(&rt, &counts)
 }
