@@ -1,6 +1,6 @@
 // Calls that may be refused: image, kind, parameter, margin, row, lengths and bits are each drawn right or wrong. Every call has to give the number that comes first, and to alter nothing where it is refused.
 use crate::calls::Case;
-use crate::{assignments, bytes, calls, cases, counts, lists, rows};
+use crate::{assignments, bytes, calls, candidates, cases, counts, rows};
 
 // How many times all calls are made of each site.
 const ASKS: usize = 300;
@@ -111,7 +111,7 @@ fn ask_plan(image: &[u8], weights: &[u16; 2500], c: Case, counts: &mut [u64; 130
     let lent_plan = draw_length(counts, c.meters);
     let asked = altered(c, lent_bits, lent_plan, 0);
     let list = draw_list(counts, c.meters);
-    let energy = lists::compare_list(image, weights, asked, &list, counts);
+    let energy = candidates::compare_list(image, weights, asked, &list, counts);
     ask_bits(image, weights, asked, counts);
 }
 

@@ -1,6 +1,6 @@
 // Energies and decoded plans of assignments. The bits behind those of the case are 0.
 use crate::calls::{Case, Plan};
-use crate::{bytes, calls, counts, lists, rows};
+use crate::{bytes, calls, candidates, counts, rows};
 
 // The least of some energies, how many have it, and how many are below the penalty.
 #[derive(Clone, Copy)]
@@ -79,7 +79,7 @@ fn repair_agrees(
 // Groups and trees: the plan is one whose code the bits are, with its weight and 0 repaired.
 fn code_agrees(weights: &[u16; 2500], c: Case, bits: &[u8; 128], plan: &[u8; 8], p: Plan) -> bool {
     let mut code = [0u8; 128];
-    if !lists::code_of(weights, c, plan, &mut code) {
+    if !candidates::code_of(weights, c, plan, &mut code) {
         return false;
     }
     if calls::is_plan(p, reference::weight(weights, c.meters, c.ask.kind, plan), 0) {

@@ -1,7 +1,7 @@
 // The cases of a site. One with few bits is compared at every assignment, a larger one at the codes of all plans, these with one bit flipped, and random assignments.
 use crate::assignments::Least;
 use crate::calls::Case;
-use crate::{assignments, calls, counts, lists, rows};
+use crate::{assignments, calls, candidates, counts, rows};
 use plans::Ask;
 
 // The refusal of image and ask, or 0: "18 margin too large, after 7". No small site has more than 8,192 bits, so 8 never applies; large.rt has those that have.
@@ -89,7 +89,7 @@ fn tree_agrees(weights: &[u16; 2500], c: Case, plans: Least) -> bool {
 // A case.
 pub fn compare_case(image: &[u8], weights: &[u16; 2500], c: Case, counts: &mut [u64; 130]) {
     rows::compare_rows(image, weights, c, counts);
-    let plans = lists::compare_lists(image, weights, c, counts);
+    let plans = candidates::compare_lists(image, weights, c, counts);
     counts::compared(counts, counts::LEAST, tree_agrees(weights, c, plans));
     if c.small {
         let all = assignments::compare_all(image, weights, c, counts);
