@@ -1,7 +1,7 @@
 #!/usr/bin/env python3
 """Runs the printing program against outputs and inputs that fail: what arrives is the whole table, with nothing on standard error, or a front part of it, with the message there.
 
-    examples/faults.py target/bin/print_table target/libmeterplan.so target/examples/faulty.so
+    examples/faults.py crates/print_table/out/print_table target/libmeterplan.so target/examples/faulty.so
 
 The whole table is that of the C interface, row by row. Prints a line for each case, and stops with status 1 at the first in which something else is found.
 """

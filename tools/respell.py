@@ -33,8 +33,8 @@ def is_shared(path):
 
 # Where two names would fall together, the lemma (with the hyphen) gets `_fact` behind it; these do too, as a definition has the name already.
 TAKEN = {"at-place", "first-at", "link-in", "rows-from"}
-# A constant of src/ has the name in capitals.
-GIVEN = {"MOST-BITS": "most_bits", "MOST-MARGIN": "most_margin"}
+# A constant of src/ has the name in capitals; a constructor of the worked surveys keeps its own.
+GIVEN = {"MOST-BITS": "most_bits", "MOST-MARGIN": "most_margin", "no-plan": "no_plan", "noPlan": "not_plan"}
 # Helpers of one file that have the new name of a definition which the file cites.
 LOCAL = {
     "crates/neighbours/proofs/DegreeSums.antt": ("count_at", "count_at_is"),

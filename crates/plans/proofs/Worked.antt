@@ -29,7 +29,7 @@ use Rattle.site.specs.Refusal.{refusal}
 use Rattle.site.proofs.Refused.{refusal_next, refusal_here}
 use Rattle.groups.proofs.Demands as groups
 use Rattle.tree.specs.Plans as tree-plans
-use Rattle.tree.proofs.Trial.{options, tried, no_lighter, no_plan, plans_tried, none_lighter, none_plan}
+use Rattle.tree.proofs.Trial.{options, tried, no_lighter, not_plan, plans_tried, none_lighter, none_plan}
 use Rattle.tree.proofs.PlanFacts.{least_best}
 use Rattle.tree.proofs.Asking as tree-asking
 use Rattle.tree.proofs.Demands as tree
@@ -87,7 +87,7 @@ lightest N ls (Tree d) w = tried (no_lighter N d ls w) (options ls) 1 N []
 unplanned : ℕ → List Link → Kind → Bool
 unplanned N ls (Channels n) = false
 unplanned N ls (Groups m) = false
-unplanned N ls (Tree d) = tried (no_plan N d ls) (options ls) 1 N []
+unplanned N ls (Tree d) = tried (not_plan N d ls) (options ls) 1 N []
 
 -- every plan is among those: over all lists of parents of a tree
 among : List (List ℕ) → List ℕ → Bool
@@ -118,7 +118,7 @@ holds s k I (lines.no_plan_12 q) = eqb (length q) I.plan_bytes && not (I.is_plan
 holds s k I (lines.repairs x q w m) = alike (I.decoded x) q && (eqb (I.weight q) w && eqb (I.repaired x) m)
 holds s k I (lines.least q w) = I.is_plan q && (eqb (I.weight q) w && lightest s.meters s.links k w)
 holds s k I lines.nothing_below = unplanned s.meters s.links k
-holds s k I lines.no_plan_fact = undivided s.meters k
+holds s k I lines.no_plan = undivided s.meters k
 
 -- ---- what passes is what the line means
 
@@ -157,7 +157,7 @@ module _ (N : ℕ) (ls : List Link) (s : Survey N ls) (A : ℕ) where
   listed_shown (Groups m) qs t q e = absurd (false≢true t)
   listed_shown (Tree d) qs t q e = among_in q qs (subst (λ (b : Bool). (not b || among qs q) ≡ true) e (plans_tried N d ls s.each _ t q e))
 
-  none_shown : (k : Kind) → limits_hold N k ≡ true → undivided N k ≡ true → Means (instance_by A site k) lines.no_plan_fact
+  none_shown : (k : Kind) → limits_hold N k ≡ true → undivided N k ≡ true → Means (instance_by A site k) lines.no_plan
   unfolding limits_hold penalty_of instance_by undivided
   none_shown (Channels n) l t q e = absurd (false≢true t)
   none_shown (Groups m) l t q e = eqb-false (N % m) 0 (not-true (eqb (N % m) 0) t) ((groups.exists_exactly N m ls s l).1 (q, e))
@@ -194,7 +194,7 @@ module _ (N : ℕ) (ls : List Link) (s : Survey N ls) (A : ℕ) where
       let r = and_right (I.is_plan q) _ t in
       least_shown k q v w f (and_left (I.is_plan q) _ t) (eqb-true (I.weight q) v (and_left (eqb (I.weight q) v) _ r)) (and_right (eqb (I.weight q) v) _ r)
   shown k w f lines.nothing_below t = below_shown k w f t
-  shown k w f lines.no_plan_fact t = none_shown k w t
+  shown k w f lines.no_plan t = none_shown k w t
 
 -- ---- the whole table
 
@@ -211,7 +211,7 @@ passes e =
 
 -- computed
 table_passes : all passes table ≡ true
-unfolding table passes holds same_int same_ints lightest unplanned among listed undivided all alike from every any tried options no_lighter no_plan kind_of limits_hold penalty_of penalty_asked instance_by instance_of link_ok ascending ascending_from before total is_at has_ends present sum_to sum_of greatest least_at lowest same differ nth row_of bit_at set_at one_hots are_choices code c-formula.within_limits c-formula.load c-formula.penalty c-formula.clash_terms c-formula.formula c-plans.is_plan c-plans.code_of c-plans.clash_weight c-repair.bears c-repair.heard c-repair.quietest c-repair.repair_one c-repair.repair_by c-repair.decoded c-repair.repaired g-formula.within_limits g-formula.penalty g-formula.size_terms g-formula.cut_terms g-formula.formula tree-formula.within_limits tree-formula.penalty tree-formula.formula_to tree-plans.few_neighbours tree-plans.is_plan tree-plans.tree_weight tree-plans.depth_choices tree-plans.arc_choice tree-plans.arc_choices tree-plans.count_choices tree-plans.code_of deepest depth_of at_most linked parent_linked roots_of is_rooted neighbours is_used tree_links arcs arcs_from depth_terms entry_terms end_terms weight_terms count_terms degree_terms
+unfolding table passes holds same_int same_ints lightest unplanned among listed undivided all alike from every any tried options no_lighter not_plan kind_of limits_hold penalty_of penalty_asked instance_by instance_of link_ok ascending ascending_from before total is_at has_ends present sum_to sum_of greatest least_at lowest same differ nth row_of bit_at set_at one_hots are_choices code c-formula.within_limits c-formula.load c-formula.penalty c-formula.clash_terms c-formula.formula c-plans.is_plan c-plans.code_of c-plans.clash_weight c-repair.bears c-repair.heard c-repair.quietest c-repair.repair_one c-repair.repair_by c-repair.decoded c-repair.repaired g-formula.within_limits g-formula.penalty g-formula.size_terms g-formula.cut_terms g-formula.formula tree-formula.within_limits tree-formula.penalty tree-formula.formula_to tree-plans.few_neighbours tree-plans.is_plan tree-plans.tree_weight tree-plans.depth_choices tree-plans.arc_choice tree-plans.arc_choices tree-plans.count_choices tree-plans.code_of deepest depth_of at_most linked parent_linked roots_of is_rooted neighbours is_used tree_links arcs arcs_from depth_terms entry_terms end_terms weight_terms count_terms degree_terms
 table_passes = refl
 
 -- one entry

@@ -25,7 +25,7 @@ pub data Line : Type 0 where
   repairs : List ℕ → List ℕ → ℕ → ℕ → Line
   least : List ℕ → ℕ → Line
   nothing_below : Line
-  no_plan_fact : Line
+  no_plan : Line
 
 -- what it means, of an instance
 abbrev pub Means : Instance → Line → Type 0
@@ -56,7 +56,7 @@ Means I (least q w) = (I.is_plan q ≡ true) × (I.weight q ≡ w) × ((x : List
 -- no assignment has energy below A
 Means I nothing_below = (x : List ℕ) → Assignment I.bits x → pos I.penalty ≤ℤ energy_of I x
 -- there is no plan
-Means I no_plan_fact = (q : List ℕ) → I.is_plan q ≡ true → ⊥
+Means I no_plan = (q : List ℕ) → I.is_plan q ≡ true → ⊥
 
 -- ---- the table
 
@@ -163,7 +163,7 @@ table =
       lines = plan (2 ∷ 0 ∷ 2 ∷ 3 ∷ []) ∷ no_plan_12 (0 ∷ 1 ∷ 2 ∷ 3 ∷ []) ∷ [];
     }
     -- "three meters, m = 2: no plan"
-    ∷ record { site = record { meters = 3; links = [] }; ask = asks 2 2; lines = no_plan_fact ∷ [] }
+    ∷ record { site = record { meters = 3; links = [] }; ask = asks 2 2; lines = no_plan ∷ [] }
     -- the two meters in two groups of the second entry, with margin 5: A and all that it multiplies rise, and the plan's energy does not
     ∷ record {
       site = record { meters = 2; links = link 1 2 3 ∷ [] };

@@ -100,8 +100,8 @@ unfoldable pub no_lighter : ℕ → ℕ → List Link → ℕ → List ℕ → B
 no_lighter N d ls w p = not (is_plan N d ls p) || leb w (tree_weight ls p)
 
 -- the test of a list: it is no plan
-unfoldable pub no_plan : ℕ → ℕ → List Link → List ℕ → Bool
-no_plan N d ls p = not (is_plan N d ls p)
+unfoldable pub not_plan : ℕ → ℕ → List Link → List ℕ → Bool
+not_plan N d ls p = not (is_plan N d ls p)
 
 -- where the first holds of all lists of options, no plan is lighter than w
 pub none_lighter : (N d : ℕ) (ls : List Link) (w : ℕ) → all (link_ok N) ls ≡ true → tried (no_lighter N d ls w) (options ls) 1 N [] ≡ true → (p : List ℕ) → is_plan N d ls p ≡ true → w ≤ tree_weight ls p
@@ -109,6 +109,6 @@ unfolding no_lighter
 none_lighter N d ls w o e p q = leb-true w (tree_weight ls p) (subst (λ (t : Bool). (not t || leb w (tree_weight ls p)) ≡ true) q (plans_tried N d ls o (no_lighter N d ls w) e p q))
 
 -- where the second does, there is no plan
-pub none_plan : (N d : ℕ) (ls : List Link) → all (link_ok N) ls ≡ true → tried (no_plan N d ls) (options ls) 1 N [] ≡ true → (p : List ℕ) → is_plan N d ls p ≡ true → ⊥
-unfolding no_plan
-none_plan N d ls o e p q = false≢true (subst (λ (t : Bool). not t ≡ true) q (plans_tried N d ls o (no_plan N d ls) e p q))
+pub none_plan : (N d : ℕ) (ls : List Link) → all (link_ok N) ls ≡ true → tried (not_plan N d ls) (options ls) 1 N [] ≡ true → (p : List ℕ) → is_plan N d ls p ≡ true → ⊥
+unfolding not_plan
+none_plan N d ls o e p q = false≢true (subst (λ (t : Bool). not t ≡ true) q (plans_tried N d ls o (not_plan N d ls) e p q))
