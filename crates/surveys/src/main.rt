@@ -10,16 +10,13 @@ mod lines;
 mod readings;
 mod words;
 
-ghost use Rattle.std.specs.Prelude.{◌≤◌, length, IfOk};
+ghost use Rattle.std.specs.Prelude.{◌+◌, ◌≤◌, length, IfOk};
 
 use plans::Ask;
 use std::io;
 use std::io::Read;
 
 const NEWLINE: u8 = 10;
-
-// So many bytes of input are read at most.
-const ROOM: u64 = 32768;
 
 // What one line leaves for those after it: how many bytes are lent as the image, and the margin of what is asked.
 #[derive(Clone, Copy)]
@@ -118,9 +115,32 @@ fn carry_out_all(rt: &impl Print, text: &[u8]) -> io::Result<()> {
     Ok(())
 }
 
+// One read into the places from `done` on. Gives how many bytes it put there, 0 where the input has ended.
+fn read_to(from: &mut impl Read, bytes: &mut [u8], done: usize) -> io::Result<usize>
+    requires { done ≤ length bytes.old }
+    ensures { IfOk result (λ n. done + n ≤ length bytes.old) }
+{
+    from.read(&mut bytes[done..])
+}
+
+// Reads until the places are full or the input ends. Gives how many bytes it put there.
+fn read_full(from: &mut impl Read, bytes: &mut [u8]) -> io::Result<usize>
+    ensures { IfOk result (λ n. n ≤ length bytes.old) }
+{
+    let mut done: usize = 0;
+    while done < bytes.len() {
+        let count = read_to(from, bytes, done)?;
+        if count == 0 {
+            return Ok(done);
+        }
+        done += count;
+    }
+    Ok(done)
+}
+
 // The whole input, for which there is room.
 fn main(rt: HostRuntime) -> io::Result<()> {
-    let mut text = Vec::new(rt.alloc());
-    rt.reader().take(ROOM).read_to_end(&mut text)?;
-    carry_out_all(&rt, text.as_slice())
+    let mut text = [0u8; 32768];
+    let n = read_full(&mut rt.stdin(), &mut text)?;
+    carry_out_all(&rt, &text[..n])
 }
