@@ -40,6 +40,7 @@ pub(crate) fn of_ask(ask: Ask, meters: usize) -> u64
 }
 
 // A table of so many bits: 8.
+#[tactic(auto, using(crate::proofs::Refusing::count_many, crate::proofs::Refusing::count_fine))]
 pub(crate) fn of_count(bits: usize) -> u64
     ensures { result ≡ refusal (count_tests bits) }
 {
