@@ -132,7 +132,7 @@ fn file_of_output<R: Files>(rt: &R) -> Option<R::File> {
     OpenOptions::new().write(true).open(rt, OUTPUT).ok()
 }
 
-// Whether what standard output took is kept, as far as the system can say: of a file, that it has reached its device, since some file systems tell only then that it is lost.
+// Whether what standard output took is kept, as far as the system can say: of a file, that it has reached its device, since some file systems tell only then that it is lost. Where it is no file, or one that cannot be opened again, nothing can be asked.
 pub fn is_kept(rt: &impl Files) -> bool {
     match file_of_output(rt) {
         Some(file) => file.sync_data().is_ok(),

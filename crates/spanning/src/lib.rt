@@ -34,6 +34,7 @@ pub fn parent_of(parents: &[u8], v: usize) -> usize
 }
 
 // The depth of meter v: 0 at the root, otherwise one more than the parent's. Each step up uses up one of those allowed, so a ring of parents ends too.
+#[tactic(auto, using(crate::proofs::Recursion::depth_none))]
 pub fn depth_of(parents: &[u8], v: usize, allowance: usize) -> Depth
     ensures { result ≡ depth_of parents.now allowance v }
 {

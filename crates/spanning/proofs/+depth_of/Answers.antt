@@ -6,15 +6,12 @@ use Rattle.lists.specs.Sums.{nth}
 use Rattle.spanning.specs.Parents.{deeper, depth_of}
 use Rattle.spanning.specs.declared.Depth.TheVariants.{At, Ring}
 use Rattle.spanning.proofs.Depths.{depth_root}
-use Rattle.spanning.proofs.Recursion.{depth_none, depth_up, depth_below}
+use Rattle.spanning.proofs.Recursion.{depth_up, depth_below}
 use Rattle.spanning.proofs.+depth_of.Goals as goal
-
-pub returns-then-allowance-eq0 : goal.returns-then-allowance-eq0
-returns-then-allowance-eq0 t c = sym (depth_none _ _ _ c.if-allowance-eq0.true)
 
 pub returns-then-u-eq0 : goal.returns-then-u-eq0
 returns-then-u-eq0 t c =
-    sym (depth_root c.args.parents.now c.args.allowance c.args.v (omega (arith, c.if-allowance-eq0.false)) (sym c.parent_of-u.ensures ∙ c.if-u-eq0.true))
+    sym (depth_root c.args.parents.now c.args.allowance c.args.v (omega arith) (sym c.parent_of-u.ensures ∙ c.if-u-eq0.true))
 
 pub overflow_add-result : goal.overflow_add-result
 overflow_add-result t c =
@@ -25,11 +22,11 @@ returns-in-At t c =
     let a = c.args in
     let w = c.parent_of-u.ensures in
     let e : depth_of a.parents.now (a.allowance - 1) (nth a.parents.now a.v) ≡ At c.in-At.h = rw w at (sym c.in-At.ensures) in
-    ap At (add-one c.in-At.h) ∙ sym (depth_up a.parents.now a.allowance a.v c.if-allowance-eq0.false (λ z. c.if-u-eq0.false (w ∙ z)) ∙ ap deeper e)
+    ap At (add-one c.in-At.h) ∙ sym (depth_up a.parents.now a.allowance a.v (λ e. omega arith) (λ z. c.if-u-eq0.false (w ∙ z)) ∙ ap deeper e)
 
 pub returns-in-Ring : goal.returns-in-Ring
 returns-in-Ring t c =
     let a = c.args in
     let w = c.parent_of-u.ensures in
     let e : depth_of a.parents.now (a.allowance - 1) (nth a.parents.now a.v) ≡ Ring = rw w at (sym c.in-Ring.ensures) in
-    sym (depth_up a.parents.now a.allowance a.v c.if-allowance-eq0.false (λ z. c.if-u-eq0.false (w ∙ z)) ∙ ap deeper e)
+    sym (depth_up a.parents.now a.allowance a.v (λ e. omega arith) (λ z. c.if-u-eq0.false (w ∙ z)) ∙ ap deeper e)
