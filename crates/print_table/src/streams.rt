@@ -1,130 +1,75 @@
-// Input and output that are whole or said not to be: after a read or a write that fails there is no other.
-ghost use Rattle.std.specs.Prelude.{◌+◌, ◌≤◌, length, IfOk};
-
+// Input and output that wait for their other end, and say when it does not come.
 use std::fs::{OpenFile, OpenOptions};
-use std::io::{Error, ErrorKind, Read};
+use std::io::{Error, ErrorKind, Read, Write};
 use std::rt::{Clock, Files};
 use std::time::Duration;
 use std::{fs, io, thread};
 
-// So often a call that moved nothing and may succeed later is tried again, a millisecond after the last time: about ten seconds in which nothing moves.
-const TRIES: usize = 10000;
+// So often a call is tried that moves nothing and may succeed later, a millisecond apart: about ten seconds in which nothing moves.
+const TRIES: u32 = 10000;
 
 // Standard output by its path.
 const OUTPUT: &str = "/dev/stdout";
 
-// Whether a failed call may succeed later: a signal came first, or a pipe that does not wait for its other end is full or empty.
-fn may_pass(error: &Error) -> bool {
-    let kind = error.kind();
-    if kind == ErrorKind::Interrupted {
-        return true;
+/// A stream whose calls are tried again where they may succeed later: a signal came first, or a pipe that does not wait for its other end is full or empty.
+#[derive(Drop)]
+pub struct Patient<'a, C, S> {
+    clock: &'a C,
+    stream: S,
+}
+
+impl<'a, C: Clock, S> Patient<'a, C, S> {
+    pub fn new(clock: &'a C, stream: S) -> Patient<'a, C, S> {
+        Patient { clock, stream }
     }
-    kind == ErrorKind::WouldBlock
-}
 
-// Waits for a millisecond.
-fn pause(rt: &impl Clock) {
-    thread::sleep(rt, Duration::from_millis(1));
-}
-
-// Whether a call that has just failed is worth another try; it waits before it says so.
-fn again(rt: &impl Clock, error: &Error) -> bool {
-    if !may_pass(error) {
-        return false;
-    }
-    pause(rt);
-    true
-}
-
-// One write of the bytes from `done` on. Gives how many of them were taken.
-fn write_from(to: &impl Print, bytes: &[u8], done: usize) -> io::Result<usize>
-    requires { done ≤ length bytes.now }
-    ensures { IfOk result (λ n. done + n ≤ length bytes.now) }
-{
-    to.write_some(&bytes[done..])
-}
-
-// Writes all the bytes and gives true, or stops at the first write that fails and gives false: then the first of them may have been written.
-pub fn write_all(rt: &impl Clock, to: &impl Print, bytes: &[u8]) -> bool {
-    let mut done: usize = 0;
-    let mut tries = TRIES;
-    while done < bytes.len() {
-        match write_from(to, bytes, done) {
-            Ok(taken) => {
-                if taken == 0 {
-                    return false;
-                }
-                done += taken;
-                tries = TRIES;
+    // Waits after a call that failed and may succeed later; any other failure it gives back.
+    fn wait_after(&self, error: Error) -> io::Result<()> {
+        match error.kind() {
+            ErrorKind::Interrupted | ErrorKind::WouldBlock => {
+                thread::sleep(self.clock, Duration::from_millis(1));
+                Ok(())
             }
-            Err(error) => {
-                if tries == 0 {
-                    return false;
-                }
-                if !again(rt, &error) {
-                    return false;
-                }
-                tries -= 1;
-            }
+            _ => Err(error),
         }
     }
-    true
 }
 
-// One read into the places from `done` on. Gives how many bytes it put there, 0 where the input has ended.
-fn read_to(from: &mut impl Read, bytes: &mut [u8], done: usize) -> io::Result<usize>
-    requires { done ≤ length bytes.old }
-    ensures { IfOk result (λ n. done + n ≤ length bytes.old) }
-{
-    from.read(&mut bytes[done..])
+// Nothing has moved in all the tries.
+fn timed_out() -> Error {
+    Error::from(ErrorKind::TimedOut)
 }
 
-// How many bytes were read, and whether a read failed before the input had ended.
-#[derive(Clone, Copy)]
-pub struct Input {
-    pub len: usize,
-    pub failed: bool,
-}
-
-// All of the input, or as much of it as there is room for.
-fn whole(len: usize) -> Input {
-    Input { len, failed: false }
-}
-
-// What there was before a read failed.
-fn failed_at(len: usize) -> Input {
-    Input { len, failed: true }
-}
-
-// Reads until the places are full or the input ends, or stops at the first read that fails.
-pub fn read_all(rt: &impl Clock, from: &mut impl Read, bytes: &mut [u8]) -> Input {
-    let mut done: usize = 0;
-    let mut tries = TRIES;
-    while done < bytes.len() {
-        match read_to(from, bytes, done) {
-            Ok(count) => {
-                if count == 0 {
-                    return whole(done);
-                }
-                done += count;
-                tries = TRIES;
-            }
-            Err(error) => {
-                if tries == 0 {
-                    return failed_at(done);
-                }
-                if !again(rt, &error) {
-                    return failed_at(done);
-                }
-                tries -= 1;
+impl<C: Clock, S: Read> Read for Patient<'_, C, S> {
+    fn read(&mut self, buf: &mut [u8]) -> io::Result<usize> {
+        for _ in 0..TRIES {
+            match self.stream.read(buf) {
+                Ok(count) => return Ok(count),
+                Err(error) => self.wait_after(error)?,
             }
         }
+        Err(timed_out())
     }
-    whole(done)
+}
+
+impl<C: Clock, S: Write> Write for Patient<'_, C, S> {
+    fn write(&mut self, buf: &[u8]) -> io::Result<usize> {
+        for _ in 0..TRIES {
+            match self.stream.write(buf) {
+                Ok(count) => return Ok(count),
+                Err(error) => self.wait_after(error)?,
+            }
+        }
+        Err(timed_out())
+    }
+
+    fn flush(&mut self) -> io::Result<()> {
+        self.stream.flush()
+    }
 }
 
 // The file that standard output goes to, where it is a file and can be opened by its path.
-fn file_of_output<R: Files>(rt: &R) -> Option<R::File> {
+fn output_file<R: Files>(rt: &R) -> Option<R::File> {
     let found = fs::metadata(rt, OUTPUT).ok()?;
     if !found.is_file() {
         return None;
@@ -132,10 +77,10 @@ fn file_of_output<R: Files>(rt: &R) -> Option<R::File> {
     OpenOptions::new().write(true).open(rt, OUTPUT).ok()
 }
 
-// Whether what standard output took is kept, as far as the system can say: of a file, that it has reached its device, since some file systems tell only then that it is lost. Where it is no file, or one that cannot be opened again, nothing can be asked.
-pub fn is_kept(rt: &impl Files) -> bool {
-    match file_of_output(rt) {
-        Some(file) => file.sync_data().is_ok(),
-        None => true,
+/// Sees that what standard output took is kept, as far as the system can say: of a file, that it has reached its device, since some file systems tell only then that it is lost. Where it is no file, or one that cannot be opened again, nothing can be asked.
+pub fn sync_output(rt: &impl Files) -> io::Result<()> {
+    match output_file(rt) {
+        Some(file) => file.sync_data(),
+        None => Ok(()),
     }
 }

@@ -1,162 +1,104 @@
 // Calls that read an image for what is asked. What is lent is printed after the call, so that a line shows what was altered too: numbers lent are 77 at first, and bytes 7.
-ghost use Rattle.std.specs.Prelude.{◌≤◌};
+ghost use Rattle.std.specs.Prelude.{◌≡◌, IfOk, min, vec_len};
 
-use crate::{bytes, lines, words};
+use crate::answers::{Answer, Decoding, differing, write_bytes};
+use crate::words::{self, MOST_BYTES, Numbers};
 use plans::Ask;
+use std::alloc::{AllocError, Global};
 use std::io;
+use std::io::Write;
 
 // How many numbers of a row are printed.
 const SHOWN: usize = 12;
 
-// What a line asks for: the kind K and its parameter P, with the margin that was set before it.
-pub fn asked(n: &[u64; 8], margin: u64) -> Ask {
-    Ask {
-        kind: n[1],
-        parameter: n[2],
-        margin,
-    }
-}
+// So many numbers are lent for a row at most.
+const MOST_NUMBERS: usize = 8192;
 
-// `kind K P`: the bit count, the constant and A.
-pub fn show_kind(rt: &impl Print, image: &[u8], ask: Ask) -> io::Result<()> {
-    lines::words(rt, b":")?;
-    lines::answer(rt, plans::bit_count(image, ask))?;
-    lines::answer(rt, plans::constant(image, ask))?;
-    lines::answer(rt, plans::penalty(image, ask))
-}
-
-// The first numbers of a slice.
-fn print_front(rt: &impl Print, places: &[i64]) -> io::Result<()> {
-    let count = bytes::within(places.len(), SHOWN);
-    let mut k = 0;
-    while k < count {
-        lines::signed(rt, places[k])?;
-        k += 1;
-    }
-    Ok(())
-}
-
-// How many numbers the row has that comes back.
-fn row_length(image: &[u8], ask: Ask, i: u64, places: &mut [i64]) -> u64 {
-    let row = plans::row(image, ask, i, places);
-    row.len() as u64
-}
-
-// 1 where two numbers differ.
-fn differ(a: i64, b: i64) -> usize
-    ensures { result ≤ 1 }
+/// Bytes that are lent for a plan or its code: so many, as far as it has them.
+pub fn lent_bytes(alloc: Global, count: u64) -> Result<Vec<u8>, AllocError>
+    ensures { IfOk result (λ v. vec_len v ≡ min count MOST_BYTES) }
 {
-    if a == b { 0 } else { 1 }
+    vec![in alloc; 7u8; MOST_BYTES.min(count as usize)]
 }
 
-// In how many places two slices differ, as far as both go.
-fn differing(places: &[i64], others: &[i64]) -> usize {
-    let n = bytes::within(places.len(), others.len());
-    let mut count: usize = 0;
-    let mut k = 0;
-    while k < n {
-        count += differ(places[k], others[k]);
-        k += 1;
+fn lent_numbers(alloc: Global, count: u64) -> Result<Vec<i64>, AllocError>
+    ensures { IfOk result (λ v. vec_len v ≡ min count MOST_NUMBERS) }
+{
+    vec![in alloc; 77i64; MOST_NUMBERS.min(count as usize)]
+}
+
+/// `kind K P`: the bit count, the constant and A.
+pub fn show_kind(out: &mut impl Write, image: &[u8], ask: Ask) -> io::Result<()> {
+    let bits = Answer(plans::bit_count(image, ask));
+    let constant = Answer(plans::constant(image, ask));
+    let penalty = Answer(plans::penalty(image, ask));
+    write!(out, ":{bits}{constant}{penalty}")
+}
+
+/// `fill K P I COUNT`: row I, in so many places.
+#[derive(Clone, Copy)]
+pub struct Row {
+    ask: Ask,
+    index: u64,
+    count: u64,
+}
+
+impl Row {
+    pub fn new(ask: Ask, [_, _, index, count, ..]: Numbers) -> Row {
+        Row { ask, index, count }
     }
-    count
+
+    /// The number with which the row is refused, and the length of the part that comes back; the number of the call that fills other places, in how many places what the two calls leave differs, and
+    /// what the first one leaves.
+    pub fn show(self, alloc: Global, out: &mut impl Write, image: &[u8]) -> io::Result<()> {
+        let mut places = lent_numbers(alloc, self.count)?;
+        let mut others = lent_numbers(alloc, self.count)?;
+        let refusal = plans::row_refusal(image, self.ask, self.index, places.as_slice());
+        let len = plans::row(image, self.ask, self.index, places.as_mut_slice()).len();
+        let filled = plans::fill_row(image, self.ask, self.index, others.as_mut_slice());
+        let different = differing(places.as_slice(), others.as_slice());
+        write!(out, ": {refusal} {len} {filled} {different}")?;
+        for z in places.iter().take(SHOWN) {
+            write!(out, " {z}")?;
+        }
+        Ok(())
+    }
 }
 
-// The number with which the row is refused, and the length of the part that comes back; the number of the call that fills other places, in how many places what the two calls leave differs, and what
-// the first one leaves.
-fn row_in(
-    rt: &impl Print,
-    image: &[u8],
+/// `K P BYTES COUNT`: a plan or its code, with so many bytes for the other.
+#[derive(Drop)]
+pub struct Coding {
     ask: Ask,
-    i: u64,
-    places: &mut [i64],
-    others: &mut [i64],
-) -> io::Result<()> {
-    lines::named(rt, b": ", plans::row_refusal(image, ask, i, places))?;
-    lines::named(rt, b" ", row_length(image, ask, i, places))?;
-    lines::named(rt, b" ", plans::fill_row(image, ask, i, others))?;
-    lines::named(rt, b" ", differing(places, others) as u64)?;
-    print_front(rt, places)
+    given: Vec<u8>,
+    count: u64,
 }
 
-// `fill K P I COUNT`: row I, in so many places.
-pub fn show_row(rt: &impl Print, image: &[u8], ask: Ask, n: &[u64; 8]) -> io::Result<()> {
-    let mut places = [77i64; 8192];
-    let mut others = [77i64; 8192];
-    let count = bytes::within(n[4] as usize, 8192);
-    row_in(
-        rt,
-        image,
-        ask,
-        n[3],
-        &mut places[..count],
-        &mut others[..count],
-    )
-}
+impl Coding {
+    pub fn new(alloc: Global, ask: Ask, line: &[u8]) -> Result<Coding, AllocError> {
+        let [_, _, _, count, ..] = words::numbers(line);
+        Ok(Coding {
+            ask,
+            given: words::bytes(alloc, line)?,
+            count,
+        })
+    }
 
-// The energy, then the weight and how many meters were repaired, and the plan.
-fn decode_in(
-    rt: &impl Print,
-    image: &[u8],
-    ask: Ask,
-    bits: &[u8],
-    plan: &mut [u8],
-) -> io::Result<()> {
-    lines::words(rt, b":")?;
-    lines::answer(rt, plans::energy(image, ask, bits))?;
-    lines::decoded(rt, plans::decode(image, ask, bits, plan))?;
-    bytes::print(rt, plan)
-}
+    /// Of the bits given: the energy, then the weight and how many meters were repaired, and the plan.
+    pub fn show_decode(&self, alloc: Global, out: &mut impl Write, image: &[u8]) -> io::Result<()> {
+        let bits = self.given.as_slice();
+        let mut plan = lent_bytes(alloc, self.count)?;
+        let energy = Answer(plans::energy(image, self.ask, bits));
+        let decoding = Decoding(plans::decode(image, self.ask, bits, plan.as_mut_slice()));
+        write!(out, ":{energy}{decoding}")?;
+        write_bytes(out, plan.as_slice())
+    }
 
-// `decode K P BITS COUNT`: the bits, with so many bytes for a plan.
-pub fn show_decode(
-    rt: &impl Print,
-    image: &[u8],
-    ask: Ask,
-    n: &[u64; 8],
-    line: &[u8],
-) -> io::Result<()> {
-    let mut bits = [7u8; 128];
-    let mut plan = [7u8; 128];
-    let given = words::digits_of(line, &mut bits);
-    let count = bytes::within(n[4] as usize, 128);
-    decode_in(
-        rt,
-        image,
-        ask,
-        bytes::front_of(&bits, given),
-        &mut plan[..count],
-    )
-}
-
-// The number returned, and the bits.
-fn encode_in(
-    rt: &impl Print,
-    image: &[u8],
-    ask: Ask,
-    plan: &[u8],
-    bits: &mut [u8],
-) -> io::Result<()> {
-    lines::named(rt, b": ", plans::encode(image, ask, plan, bits))?;
-    bytes::print(rt, bits)
-}
-
-// `encode K P PLAN COUNT`: the plan, with so many bytes for bits.
-pub fn show_encode(
-    rt: &impl Print,
-    image: &[u8],
-    ask: Ask,
-    n: &[u64; 8],
-    line: &[u8],
-) -> io::Result<()> {
-    let mut plan = [7u8; 128];
-    let mut bits = [7u8; 128];
-    let given = words::digits_of(line, &mut plan);
-    let count = bytes::within(n[4] as usize, 128);
-    encode_in(
-        rt,
-        image,
-        ask,
-        bytes::front_of(&plan, given),
-        &mut bits[..count],
-    )
+    /// Of the plan given: the number returned, and the bits.
+    pub fn show_encode(&self, alloc: Global, out: &mut impl Write, image: &[u8]) -> io::Result<()> {
+        let plan = self.given.as_slice();
+        let mut bits = lent_bytes(alloc, self.count)?;
+        let number = plans::encode(image, self.ask, plan, bits.as_mut_slice());
+        write!(out, ": {number}")?;
+        write_bytes(out, bits.as_slice())
+    }
 }

@@ -1,101 +1,129 @@
 // Calls that alter an image, each with the number that it returns and how many bytes it altered.
-ghost use Rattle.std.specs.Prelude.{◌≤◌};
+ghost use Rattle.std.specs.Prelude.{◌<◌, ◌≤◌};
 
-use crate::{bytes, lines, readings};
+use crate::answers::differing;
+use crate::readings;
+use crate::words::{self, Numbers};
+use std::alloc::Global;
 use std::io;
+use std::io::Write;
 
-// Makes the edit: `begin N`, `remove U V` or `add U V W`.
-fn edit(image: &mut [u8], letter: u8, n: &[u64; 8]) -> u64 {
-    if letter == b'b' {
-        return plans::begin(image, n[1]);
+/// An edit of the image.
+#[derive(Clone, Copy)]
+pub enum Edit {
+    /// So many meters.
+    Begin(u64),
+    /// Two ends and a weight.
+    Add(u64, u64, u16),
+    /// Two ends.
+    Remove(u64, u64),
+}
+
+impl Edit {
+    fn make(self, image: &mut [u8]) -> u64 {
+        match self {
+            Edit::Begin(meters) => plans::begin(image, meters),
+            Edit::Add(u, v, weight) => plans::add(image, u, v, weight),
+            Edit::Remove(u, v) => plans::remove(image, u, v),
+        }
     }
-    if letter == b'r' {
-        return plans::remove(image, n[1], n[2]);
-    }
-    plans::add(image, n[1], n[2], (n[3] % 65536) as u16)
-}
 
-// The number returned, and how many bytes were altered.
-fn print_result(rt: &impl Print, returned: u64, altered: usize) -> io::Result<()> {
-    lines::named(rt, b": ", returned)?;
-    lines::named(rt, b", altered ", altered as u64)
-}
-
-// One edit.
-pub fn show(rt: &impl Print, image: &mut [u8], letter: u8, n: &[u64; 8]) -> io::Result<()> {
-    let old = bytes::copy_of(image);
-    let returned = edit(image, letter, n);
-    print_result(rt, returned, bytes::altered(&old, image))
-}
-
-// The meters round a circle: 1 to 48.
-fn meters_of(n: u64) -> u64
-    ensures { (1 ≤ result) × (result ≤ 48) }
-{
-    if n < 1 {
-        return 1;
-    }
-    if n < 48 { n } else { 48 }
-}
-
-// A place round the circle, from 0.
-fn place_of(k: u64, meters: u64) -> u64
-    requires { (1 ≤ meters) × (meters ≤ 48) }
-    ensures { result ≤ 48 }
-{
-    k % meters
-}
-
-// Adds the link from meter k + 1 round the circle to the one so many steps on. 1 where it is accepted.
-fn add_link(image: &mut [u8], n: &[u64; 8], k: u64) -> u64
-    ensures { result ≤ 1 }
-{
-    let meters = meters_of(n[1]);
-    let from = place_of(k, meters);
-    let on = place_of(from + n[2] % 48, meters);
-    let returned = plans::add(image, from + 1, on + 1, (n[3] % 65536) as u16);
-    if returned == 0 { 1 } else { 0 }
-}
-
-// `circle N STEP W COUNT`: such links from so many of N meters, and how many are accepted.
-pub fn circle(rt: &impl Print, image: &mut [u8], n: &[u64; 8]) -> io::Result<()> {
-    let count = bytes::within(n[4] as usize, 48);
-    let mut accepted: u64 = 0;
-    let mut k: usize = 0;
-    while k < count {
-        accepted += add_link(image, n, k as u64);
-        k += 1;
-    }
-    lines::named(rt, b": accepted ", accepted)
-}
-
-// `set AT BYTE`: one byte.
-pub fn set(image: &mut [u8], n: &[u64; 8]) {
-    let at = n[1] as usize;
-    if at < image.len() {
-        image[at] = (n[2] % 256) as u8;
+    /// Makes the edit; the number returned, and how many bytes were altered.
+    pub fn show(self, alloc: Global, out: &mut impl Write, image: &mut [u8]) -> io::Result<()> {
+        let old = image.to_vec(alloc)?;
+        let number = self.make(image);
+        write!(
+            out,
+            ": {number}, altered {}",
+            differing(old.as_slice(), image)
+        )
     }
 }
 
-// What the calls return, and how many bytes they altered together.
-fn try_calls(rt: &impl Print, image: &mut [u8]) -> io::Result<()> {
-    let old = bytes::copy_of(image);
-    lines::named(rt, b": check ", site::check(image))?;
-    lines::named(rt, b", add ", plans::add(image, 3, 4, 9))?;
-    lines::named(rt, b", remove ", plans::remove(image, 1, 2))?;
-    lines::named(rt, b", read ", readings::refusal(image))?;
-    lines::named(rt, b", altered ", bytes::altered(&old, image) as u64)
+/// `circle N STEP W COUNT`: links from so many of N meters round a circle, each to the one so many steps on.
+#[derive(Clone, Copy)]
+pub struct Circle {
+    meters: u64,
+    step: u64,
+    weight: u16,
+    count: u64,
+    ghost some_meter: { 1 ≤ meters },
+    ghost few_meters: { meters ≤ 48 },
+    ghost within_circle: { step < 48 },
 }
 
-// Sets the byte and makes the calls.
-fn try_in(rt: &impl Print, image: &mut [u8], n: &[u64; 8]) -> io::Result<()> {
-    set(image, n);
-    try_calls(rt, image)
+impl Circle {
+    pub fn new([meters, step, weight, count, ..]: Numbers) -> Circle {
+        Circle {
+            meters: meters.clamp(1, 48),
+            step: step % 48,
+            weight: words::weight(weight),
+            count: count.min(48),
+        }
+    }
+
+    // Adds the link from meter k + 1 round the circle. Gives whether it is accepted.
+    fn add_link(self, image: &mut [u8], k: u64) -> bool {
+        let from = k % self.meters;
+        let on = (from + self.step) % self.meters;
+        plans::add(image, from + 1, on + 1, self.weight) == 0
+    }
+
+    /// Adds the links; how many are accepted.
+    pub fn show(self, out: &mut impl Write, image: &mut [u8]) -> io::Result<()> {
+        let mut accepted = 0u64;
+        for k in 0..self.count {
+            if self.add_link(image, k) {
+                accepted += 1;
+            }
+        }
+        write!(out, ": accepted {accepted}")
+    }
 }
 
-// `try AT BYTE`: the calls, of a copy of the image with one byte set.
-pub fn try_byte(rt: &impl Print, image: &[u8], n: &[u64; 8]) -> io::Result<()> {
-    let mut copy = bytes::copy_of(image);
-    let lent = bytes::within(image.len(), 2065);
-    try_in(rt, &mut copy[..lent], n)
+/// `AT BYTE`: one byte, and where it is set.
+#[derive(Clone, Copy)]
+pub struct Byte {
+    at: usize,
+    value: u8,
+}
+
+impl Byte {
+    pub fn new([at, value, ..]: Numbers) -> Byte {
+        Byte {
+            at: at as usize,
+            value: (value % 256) as u8,
+        }
+    }
+
+    /// Sets the byte, where the image has that place.
+    pub fn set(self, image: &mut [u8]) {
+        if let Some(place) = image.get_mut(self.at) {
+            *place = self.value;
+        }
+    }
+
+    /// `try AT BYTE`: what the calls return of a copy of the image with the byte set, and how many bytes they altered together.
+    pub fn show_calls(self, alloc: Global, out: &mut impl Write, image: &[u8]) -> io::Result<()> {
+        let mut copy = image.to_vec(alloc)?;
+        self.set(copy.as_mut_slice());
+        let old = copy.clone()?;
+        write_calls(out, copy.as_mut_slice())?;
+        write!(
+            out,
+            ", altered {}",
+            differing(old.as_slice(), copy.as_slice())
+        )
+    }
+}
+
+fn write_calls(out: &mut impl Write, image: &mut [u8]) -> io::Result<()> {
+    let check = site::check(image);
+    let added = plans::add(image, 3, 4, 9);
+    let removed = plans::remove(image, 1, 2);
+    let read = readings::refusal(image);
+    write!(
+        out,
+        ": check {check}, add {added}, remove {removed}, read {read}"
+    )
 }

@@ -1,92 +1,63 @@
 // A line is words with a space between them: the first says what is called, by its first letter, and the others are numbers or bytes written as digits.
-ghost use Rattle.std.specs.Prelude.{◌<◌, ◌≤◌};
+ghost use Rattle.std.specs.Prelude.{◌≤◌, IfOk, vec_len};
 
-const SPACE: u8 = 32;
+use std::alloc::{AllocError, Global};
 
-// The word that is written as bytes, where a line has one.
-const BYTES: usize = 3;
+/// So many bytes a plan or its code has at most.
+pub const MOST_BYTES: usize = 128;
 
-// The first letter; an empty line is a remark.
-pub fn first(line: &[u8]) -> u8 {
-    if line.len() == 0 {
-        return b'#';
+/// The words of a line as numbers, from the second on.
+pub type Numbers = [u64; 6];
+
+/// The first letter; an empty line is a remark.
+pub fn letter(line: &[u8]) -> u8 {
+    line.first().copied().unwrap_or(b'#')
+}
+
+fn is_space(letter: &u8) -> bool {
+    *letter == b' '
+}
+
+// A digit's number.
+fn digit(letter: &u8) -> Option<u8> {
+    if letter.is_ascii_digit() {
+        Some(*letter - b'0')
+    } else {
+        None
     }
-    line[0]
 }
 
-// The word that a letter stands in or, of a space, before: one more than that of the letter before it. Those from the eighth on count as one.
-fn word_of(before: usize, letter: u8) -> usize
-    requires { before < 8 }
-    ensures { result < 8 }
-{
-    if letter != SPACE {
-        return before;
-    }
-    if before < 7 { before + 1 } else { before }
+// The number that the digits in a word make; other letters are passed over. No line has a number above 2^64 - 1; what the digits of one make is of no use.
+fn number(word: &[u8]) -> u64 {
+    word.iter().filter_map(digit).fold(0u64, |n, digit| {
+        n.checked_mul(10)
+            .unwrap_or(0)
+            .wrapping_add(u64::from(digit))
+    })
 }
 
-// Whether a letter is a digit.
-fn is_digit(letter: u8) -> bool {
-    b'0' <= letter && letter <= b'9'
-}
-
-// A digit's number, as a byte; that of another letter is of no use.
-fn digit(letter: u8) -> u8 {
-    letter % 16
-}
-
-// A number with one more digit, where the letter is one. No number in a line is above 2^64 - 1.
-fn longer(n: u64, letter: u8) -> u64 {
-    if !is_digit(letter) {
-        return n;
-    }
-    let tens = if n < 1844674407370955162 { 10 * n } else { 0 };
-    std::num::wrapping_add_u64(tens, digit(letter) as u64)
-}
-
-// The words as numbers, from the second on; those that a line does not have are 0.
-pub fn numbers_of(line: &[u8]) -> [u64; 8] {
-    let mut numbers = [0u64; 8];
-    let mut word: usize = 0;
-    let mut i: usize = 0;
-    while i < line.len() {
-        let letter = line[i];
-        word = word_of(word, letter);
-        numbers[word] = longer(numbers[word], letter);
-        i += 1;
+/// The words as numbers, from the second on; those that a line does not have are 0.
+pub fn numbers(line: &[u8]) -> Numbers {
+    let mut numbers = [0u64; 6];
+    let words = line.split(is_space).skip(1);
+    for (place, word) in numbers.iter_mut().zip(words) {
+        *place = number(word);
     }
     numbers
 }
 
-// Puts a digit of the fourth word after those before it; how many there are then.
-fn put(buffer: &mut [u8; 128], count: usize, word: usize, letter: u8) -> usize
-    requires { count ≤ 128 }
-    ensures { result ≤ 128 }
+/// The digits of the fourth word, a byte each, without those that are too many.
+pub fn bytes(alloc: Global, line: &[u8]) -> Result<Vec<u8>, AllocError>
+    ensures { IfOk result (λ v. vec_len v ≤ MOST_BYTES) }
 {
-    if word != BYTES {
-        return count;
-    }
-    if !is_digit(letter) {
-        return count;
-    }
-    if 128 <= count {
-        return count;
-    }
-    buffer[count] = digit(letter);
-    count + 1
+    let word = line.split(is_space).nth(3).unwrap_or(&[]);
+    word.iter()
+        .filter_map(digit)
+        .take(MOST_BYTES)
+        .collect(alloc)
 }
 
-// The digits of the fourth word, a byte each, in front of the buffer; how many there are.
-pub fn digits_of(line: &[u8], buffer: &mut [u8; 128]) -> usize
-    ensures { result ≤ 128 }
-{
-    let mut count: usize = 0;
-    let mut word: usize = 0;
-    let mut i: usize = 0;
-    while i < line.len() {
-        word = word_of(word, line[i]);
-        count = put(buffer, count, word, line[i]);
-        i += 1;
-    }
-    count
+/// A number as a weight: its last 16 bits.
+pub fn weight(n: u64) -> u16 {
+    (n % 65536) as u16
 }

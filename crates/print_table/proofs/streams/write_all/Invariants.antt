@@ -1,8 +1,0 @@
-use Rattle.std.proofs.Common.{◌+◌, ◌-◌, ◌*◌, ◌≤◌, length}
-use Rattle.print_table.proofs.streams.write_all.Given as goal
-
-abbrev pub invariant-loop-done : goal.invariant-loop-done
-invariant-loop-done g l = (l.done ≤ length l.bytes) × (l.tries ≤ 10000)
-
-abbrev pub decreases-loop-done : goal.decreases-loop-done
-decreases-loop-done g l = (length l.bytes - l.done) * 10001 + l.tries

@@ -1,0 +1,95 @@
+// The table that an input asks for, as lines of text.
+use plans::{Ask, Number};
+use std::alloc::Global;
+use std::io;
+use std::io::Write;
+
+/// An input has so many bytes: an image of 2,064, and then a kind and its parameter.
+pub const INPUT: u64 = 2066;
+
+// The refusal of bytes that are no image.
+const NO_IMAGE: u64 = 1;
+
+/// A table that the library gives: its image and what is asked of it, the bit count and the constant.
+#[derive(Clone, Copy)]
+struct Table<'a> {
+    image: &'a [u8],
+    ask: Ask,
+    bits: i64,
+    constant: i64,
+}
+
+// The value, or the number of the refusal.
+fn value(given: Number) -> Result<i64, u64> {
+    match given {
+        Number::Value(z) => Ok(z),
+        Number::Refused(number) => Err(number),
+    }
+}
+
+impl<'a> Table<'a> {
+    // The table that an input asks for, with no margin, or the number of the refusal.
+    fn of(input: &'a [u8]) -> Result<Table<'a>, u64> {
+        let [image @ .., kind, parameter] = input else {
+            return Err(NO_IMAGE);
+        };
+        let ask = Ask {
+            kind: u64::from(*kind),
+            parameter: u64::from(*parameter),
+            margin: 0,
+        };
+        let bits = value(plans::bit_count(image, ask))?;
+        let constant = value(plans::constant(image, ask))?;
+        Ok(Table {
+            image,
+            ask,
+            bits,
+            constant,
+        })
+    }
+
+    // Row i in front of the lent places; its number k stands at the pair (i, i + k), the first at bit i alone.
+    fn row<'b>(&self, i: u64, places: &'b mut [i64]) -> &'b mut [i64] {
+        plans::row(self.image, self.ask, i, places)
+    }
+
+    // The head and the lines of all rows, one row after another: the whole table is never held.
+    fn write(&self, alloc: Global, out: &mut impl Write) -> io::Result<()> {
+        writeln!(out, "Q {} {}", self.bits, self.constant)?;
+        let rows = self.bits.unsigned_abs();
+        let mut places = vec![in alloc; 0i64; rows as usize]?;
+        for i in 0..rows {
+            write_row(alloc, out, i, self.row(i, places.as_mut_slice()))?;
+        }
+        Ok(())
+    }
+}
+
+// A line for each number of row i that is not 0.
+fn write_row(alloc: Global, out: &mut impl Write, i: u64, row: &[i64]) -> io::Result<()> {
+    let start = format!(in alloc; "{i} ")?;
+    for (j, z) in (i..).zip(row) {
+        if *z != 0 {
+            write_entry(out, start.as_str(), j, *z)?;
+        }
+    }
+    Ok(())
+}
+
+// The line `i j value`, of which the start is given. `writeln!(out, "{i} {j} {z}")` was tried: a table of 1.9 million lines took twice the time.
+fn write_entry(out: &mut impl Write, start: &str, j: u64, z: i64) -> io::Result<()> {
+    let mut digits = itoa::Buffer::new();
+    out.write_all(start.as_bytes())?;
+    out.write_all(digits.format(j).as_bytes())?;
+    out.write_all(b" ")?;
+    out.write_all(digits.format(z).as_bytes())?;
+    out.write_all(b"\n")
+}
+
+/// Writes the table that an input asks for, or the refusal.
+pub fn write_answer(alloc: Global, out: &mut impl Write, input: &[u8]) -> io::Result<()> {
+    match Table::of(input) {
+        Ok(table) => table.write(alloc, out),
+        Err(number) => writeln!(out, "refused {number}"),
+    }
+}

@@ -1,0 +1,67 @@
+// What a line says.
+use crate::asks::{Coding, Row};
+use crate::edits::{Byte, Circle, Edit};
+use crate::search::{Candidates, Search};
+use crate::words;
+use plans::Ask;
+use std::alloc::{AllocError, Global};
+
+/// A call of the library, or what is lent to the calls after it.
+#[derive(Drop)]
+pub enum Command {
+    /// `begin N`, `add U V W` or `remove U V`
+    Edit(Edit),
+    Circle(Circle),
+    /// `lend L`: so many bytes are lent as the image.
+    Lend(usize),
+    /// `set AT BYTE`
+    Set(Byte),
+    /// `try AT BYTE`
+    Try(Byte),
+    /// `with M`: the margin.
+    With(u64),
+    Image,
+    /// `kind K P`
+    Kind(Ask),
+    Fill(Row),
+    /// `decode K P BITS COUNT`
+    Decode(Coding),
+    /// `encode K P PLAN COUNT`
+    Encode(Coding),
+    /// `plans` or `minimum`
+    Search(Search),
+    /// Nothing to answer.
+    Remark,
+}
+
+impl Command {
+    /// What a line says, by its first letter; what it asks for has the margin.
+    pub fn parse(alloc: Global, line: &[u8], margin: u64) -> Result<Command, AllocError> {
+        let numbers = words::numbers(line);
+        let [first, second, third, ..] = numbers;
+        let ask = Ask {
+            kind: first,
+            parameter: second,
+            margin,
+        };
+        let command = match words::letter(line) {
+            b'b' => Command::Edit(Edit::Begin(first)),
+            b'a' => Command::Edit(Edit::Add(first, second, words::weight(third))),
+            b'r' => Command::Edit(Edit::Remove(first, second)),
+            b'c' => Command::Circle(Circle::new(numbers)),
+            b'l' => Command::Lend(first as usize),
+            b's' => Command::Set(Byte::new(numbers)),
+            b't' => Command::Try(Byte::new(numbers)),
+            b'w' => Command::With(first),
+            b'i' => Command::Image,
+            b'k' => Command::Kind(ask),
+            b'f' => Command::Fill(Row::new(ask, numbers)),
+            b'd' => Command::Decode(Coding::new(alloc, ask, line)?),
+            b'e' => Command::Encode(Coding::new(alloc, ask, line)?),
+            b'p' => Command::Search(Search::new(Candidates::Plans, ask, numbers)),
+            b'm' => Command::Search(Search::new(Candidates::Assignments, ask, numbers)),
+            _ => Command::Remark,
+        };
+        Ok(command)
+    }
+}

@@ -1,0 +1,112 @@
+// Tries all plans or all assignments, and finds the least energy.
+ghost use Rattle.std.specs.Prelude.{◌≤◌};
+
+use crate::asks::lent_bytes;
+use crate::words::Numbers;
+use plans::{Ask, Decoded, Number};
+use std::alloc::Global;
+use std::io;
+use std::io::Write;
+
+// So many are tried at most.
+const MOST_TRIED: u64 = 100000;
+
+/// What is tried: plans, which are coded, or assignments, which are decoded.
+#[derive(Clone, Copy)]
+pub enum Candidates {
+    Plans,
+    Assignments,
+}
+
+/// `plans K P BYTES BITS TOP COUNT`: all plans of so many bytes, each 0 to TOP, of which there are COUNT. `minimum` with the same numbers: all assignments.
+#[derive(Clone, Copy)]
+pub struct Search {
+    candidates: Candidates,
+    ask: Ask,
+    bytes: u64,
+    bits: u64,
+    base: u64,
+    count: u64,
+    ghost some_digit: { 1 ≤ base },
+    ghost one_digit: { base ≤ 10 },
+}
+
+impl Search {
+    pub fn new(candidates: Candidates, ask: Ask, numbers: Numbers) -> Search {
+        let [_, _, bytes, bits, top, count] = numbers;
+        Search {
+            candidates,
+            ask,
+            bytes,
+            bits,
+            base: top % 10 + 1,
+            count: count.min(MOST_TRIED),
+        }
+    }
+
+    // Sets the bytes to as many digits of a number, the last digit last.
+    fn put_digits(&self, bytes: &mut [u8], number: u64) {
+        let mut rest = number;
+        for byte in bytes.iter_mut().rev() {
+            *byte = (rest % self.base) as u8;
+            rest /= self.base;
+        }
+    }
+
+    // Codes the plan, or decodes the bits, that have the digits of a number. Gives the number that the call returns.
+    fn try_one(&self, image: &[u8], plan: &mut [u8], bits: &mut [u8], number: u64) -> u64 {
+        match self.candidates {
+            Candidates::Plans => {
+                self.put_digits(plan, number);
+                plans::encode(image, self.ask, plan, bits)
+            }
+            Candidates::Assignments => {
+                self.put_digits(bits, number);
+                number_of(plans::decode(image, self.ask, bits, plan))
+            }
+        }
+    }
+
+    /// Tries them: how many there are, how many are plans, how many give 12, and the least energy. Bits that a refusal left as they were are no code (7 is no bit) or that of an earlier plan.
+    pub fn show(&self, alloc: Global, out: &mut impl Write, image: &[u8]) -> io::Result<()> {
+        let mut plan = lent_bytes(alloc, self.bytes)?;
+        let mut bits = lent_bytes(alloc, self.bits)?;
+        let mut accepted = 0u64;
+        let mut refused = 0u64;
+        let mut least: Option<i64> = None;
+        for k in 0..self.count {
+            match self.try_one(image, plan.as_mut_slice(), bits.as_mut_slice(), k) {
+                0 => accepted += 1,
+                12 => refused += 1,
+                _ => {}
+            }
+            least = lower(least, plans::energy(image, self.ask, bits.as_slice()));
+        }
+        write!(
+            out,
+            ": of {} plans {accepted}, give 12 {refused}",
+            self.count
+        )?;
+        match least {
+            Some(energy) => write!(out, ", least energy {energy}"),
+            None => Ok(()),
+        }
+    }
+}
+
+// The lower of the least energy so far and another.
+fn lower(least: Option<i64>, energy: Number) -> Option<i64> {
+    match (least, energy) {
+        (Some(least), Number::Value(z)) => Some(least.min(z)),
+        (None, Number::Value(z)) => Some(z),
+        (_, Number::Refused(_)) => least,
+    }
+}
+
+// The number that decoding returns, 0 where it gives a plan.
+fn number_of(given: Decoded) -> u64 {
+    match given {
+        Decoded::Plan { .. } => 0,
+        Decoded::Refused(number) => number,
+    }
+}
