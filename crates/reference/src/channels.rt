@@ -1,82 +1,58 @@
 // Kind 1, channels: penalty, energy and mending.
-use crate::{choices, numbers, sites};
+use crate::choices::Choices;
+use crate::numbers::of_meter;
+use crate::sites::Site;
 
-// "A is 1 plus the greatest sum of link weights at one meter."
-pub fn penalty(weights: &[u16; 2500]) -> u64 {
-    let mut greatest = 0;
-    let mut v: usize = 1;
-    while v < 8 {
-        let sum = sites::sum_at(weights, v);
-        if greatest < sum {
-            greatest = sum;
-        }
-        v += 1;
-    }
-    numbers::plus(1, greatest)
+/// "A is 1 plus the greatest sum of link weights at one meter."
+pub fn penalty(site: &Site) -> u64 {
+    (1..=site.meters())
+        .map(|v| site.sum_at(v))
+        .max()
+        .unwrap_or(0)
+        .wrapping_add(1)
 }
 
-// "A times the sum over meters of (1 - bits set at it)², plus, for each link and channel, the weight if both ends have that channel."
-pub fn energy(weights: &[u16; 2500], meters: usize, n: usize, a: u64, bits: &[u8]) -> u64 {
-    let penalties = numbers::times(a, choices::misses(bits, meters, n));
-    numbers::plus(penalties, choices::link_sum(weights, n, bits, 2))
+/// "A times the sum over meters of (1 - bits set at it)², plus, for each link and channel, the weight if both ends have that channel."
+pub fn energy(site: &Site, a: u64, choices: Choices<'_>) -> u64 {
+    a.wrapping_mul(choices.misses(site.meters()))
+        .wrapping_add(choices.link_sum(site, 2))
 }
 
-// Whether neighbour u bears channel i while meter v is read: "Lower-numbered neighbours bear their mended channel, higher ones the bits as they came."
-fn bears(bits: &[u8], n: usize, plan: &[u8; 8], u: usize, v: usize, i: usize) -> bool {
-    if u < v {
-        numbers::byte_at(plan, u) == i
-    } else {
-        choices::bit(bits, n, u, i) == 1
+/// Whether neighbour u bears channel i: "Lower-numbered neighbours bear their mended channel, higher ones the bits as they came." `mended` has the lower-numbered ones.
+fn bears(choices: Choices<'_>, mended: &[u8], u: usize, i: usize) -> bool {
+    match of_meter(mended, u) {
+        Some(channel) => channel == i,
+        None => choices.bit(u, i) == 1,
     }
 }
 
-// The total weight of links of meter v to neighbours bearing channel i.
-fn heard(weights: &[u16; 2500], n: usize, bits: &[u8], plan: &[u8; 8], v: usize, i: usize) -> u64 {
-    let mut sum = 0;
-    let mut u: usize = 1;
-    while u < 8 {
-        if bears(bits, n, plan, u, v, i) {
-            sum = numbers::plus(sum, sites::weight_at(weights, u, v));
-        }
-        u += 1;
-    }
-    sum
+/// The total weight of links of meter v to neighbours bearing channel i.
+fn heard(site: &Site, choices: Choices<'_>, mended: &[u8], v: usize, i: usize) -> u64 {
+    site.links()
+        .iter()
+        .filter(|link| link.has_end(v) && bears(choices, mended, link.other_end(v), i))
+        .map(|link| link.weight)
+        .fold(0, u64::wrapping_add)
 }
 
-// "the channel with the least total weight of links to neighbours bearing it, ties to the lowest channel".
-fn quietest(weights: &[u16; 2500], n: usize, bits: &[u8], plan: &[u8; 8], v: usize) -> usize {
-    let mut channel: usize = 1;
-    let mut least = heard(weights, n, bits, plan, v, 1);
-    let mut i: usize = 1;
-    while i < n {
-        i += 1;
-        let sum = heard(weights, n, bits, plan, v, i);
-        if sum < least {
-            channel = i;
-            least = sum;
-        }
-    }
-    channel
+/// "the channel with the least total weight of links to neighbours bearing it, ties to the lowest channel".
+fn quietest(site: &Site, choices: Choices<'_>, mended: &[u8], v: usize) -> usize {
+    (1..=choices.n)
+        .min_by_key(|i| heard(site, choices, mended, v, *i))
+        .unwrap_or(0)
 }
 
-// The lowest channel set at a meter, 0 where none is.
-fn lowest(bits: &[u8], n: usize, v: usize) -> usize {
-    let mut i: usize = 0;
-    while i < n {
-        i += 1;
-        if choices::bit(bits, n, v, i) == 1 {
-            return i;
-        }
-    }
-    0
+/// What a meter is mended to, after those below it: "Just one bit set: kept. Several: the lowest channel set is kept. None: the channel with the least total weight".
+fn mended(site: &Site, choices: Choices<'_>, mended: &[u8], v: usize) -> usize {
+    (1..=choices.n)
+        .find(|i| choices.bit(v, *i) == 1)
+        .unwrap_or_else(|| quietest(site, choices, mended, v))
 }
 
-// "Just one bit set: kept. Several: the lowest channel set is kept. None: the channel with the least total weight".
-pub fn mended(weights: &[u16; 2500], n: usize, bits: &[u8], plan: &[u8; 8], v: usize) -> usize {
-    let i = lowest(bits, n, v);
-    if i == 0 {
-        quietest(weights, n, bits, plan, v)
-    } else {
-        i
+/// Puts the channels that the bits are mended to into the plan, one for each meter.
+pub fn mend(site: &Site, choices: Choices<'_>, plan: &mut [u8]) {
+    // By index: each meter reads the part of the list that is written by then.
+    for k in 0..plan.len() {
+        plan[k] = (mended(site, choices, &plan[..k], k + 1) % 256) as u8;
     }
 }

@@ -1,76 +1,140 @@
-// A site: the weight of the link of u < v at place 50u + v, 0 at every other place. Ends are 1 to 7, so the pairs of u and v are numbered 8u + v, 0 to 63; the numbers rise as the links do, by u, then
-// by v.
-use crate::numbers;
+// Sites: their meters, and their links in chain order.
+ghost use Rattle.std.specs.Prelude.{◌≤◌, length};
 
-// A weight, for sums.
-fn wide(weight: u16) -> u64 {
-    weight as u64
+/// The most meters, and the most links between them.
+const METERS: usize = 6;
+
+const LINKS: usize = 15;
+
+/// Weights, that of the link of u < v at row u and column v; 0 where there is no link.
+pub type Weights = [[u16; 50]; 50];
+
+/// A link of u < v.
+#[derive(Debug, Clone, Copy, PartialEq, Eq)]
+pub struct Link {
+    pub u: usize,
+    pub v: usize,
+    pub weight: u64,
 }
 
-// The weight at the place of u < v.
-fn stored(weights: &[u16; 2500], u: usize, v: usize) -> u64 {
-    if v < 8 {
-        if u < v {
-            return wide(weights[50 * u + v]);
+impl Link {
+    /// Whether a meter is an end.
+    pub fn has_end(&self, v: usize) -> bool {
+        self.u == v || self.v == v
+    }
+
+    /// Whether it is the link of u and v, either way round.
+    pub fn joins(&self, u: usize, v: usize) -> bool {
+        self.u == u && self.v == v || self.u == v && self.v == u
+    }
+
+    /// The end that is not v.
+    pub fn other_end(&self, v: usize) -> usize {
+        if self.u == v { self.v } else { self.u }
+    }
+}
+
+/// A site of up to six meters. Its links stand in chain order: by u, then by v.
+#[derive(Clone, Copy)]
+pub struct Site {
+    meters: usize,
+    // Fixed places, so that no heap is needed; the first `count` are taken.
+    links: [Link; LINKS],
+    count: usize,
+    ghost few: { count ≤ 15 },
+}
+
+impl Site {
+    /// A site of so many meters, or of six where there are more, with the links of these weights between them.
+    pub fn new(meters: usize, weights: &Weights) -> Site {
+        let meters = meters.min(METERS);
+        let mut site = Site::unlinked(meters);
+        for u in 1..meters {
+            for v in u + 1..=meters {
+                let weight = u64::from(weights[u][v]);
+                if weight != 0 {
+                    site.push(Link { u, v, weight });
+                }
+            }
+        }
+        site
+    }
+
+    /// A site with no links.
+    fn unlinked(meters: usize) -> Site {
+        let none = Link {
+            u: 0,
+            v: 0,
+            weight: 0,
+        };
+        Site {
+            meters,
+            links: [none; LINKS],
+            count: 0,
         }
     }
-    0
-}
 
-// The weight of the link of u and v, either way round; 0 where there is none.
-pub fn weight_at(weights: &[u16; 2500], u: usize, v: usize) -> u64 {
-    if u < v {
-        stored(weights, u, v)
-    } else {
-        stored(weights, v, u)
+    /// Adds a link behind the others, where there is room for it.
+    fn push(&mut self, link: Link) {
+        let k = self.count;
+        if k < LINKS {
+            self.links[k] = link;
+            self.count = k + 1;
+        }
     }
-}
 
-// The weight of the link of a pair u < v by its number, 0 where there is none.
-pub fn link_at(weights: &[u16; 2500], pair: usize) -> u64 {
-    stored(weights, pair / 8, pair % 8)
-}
-
-// The sum of all weights.
-pub fn total(weights: &[u16; 2500]) -> u64 {
-    let mut sum = 0;
-    let mut pair: usize = 0;
-    while pair < 64 {
-        sum = numbers::plus(sum, link_at(weights, pair));
-        pair += 1;
+    /// How many meters there are.
+    pub fn meters(&self) -> usize {
+        self.meters
     }
-    sum
-}
 
-// How many links stand before a pair, by its number, in chain order.
-pub fn links_before(weights: &[u16; 2500], end: usize) -> u64 {
-    let mut n = 0;
-    let mut pair: usize = 0;
-    while pair < end {
-        n = numbers::counted(n, link_at(weights, pair) != 0);
-        pair += 1;
+    /// The links in chain order.
+    pub fn links(&self) -> &[Link]
+        ensures { length result.now ≤ 15 }
+    {
+        &self.links[..self.count]
     }
-    n
-}
 
-// The sum of link weights at one meter.
-pub fn sum_at(weights: &[u16; 2500], v: usize) -> u64 {
-    let mut sum = 0;
-    let mut u: usize = 1;
-    while u < 8 {
-        sum = numbers::plus(sum, weight_at(weights, u, v));
-        u += 1;
+    /// The weight of the link of u and v, either way round; 0 where there is none.
+    pub fn weight(&self, u: usize, v: usize) -> u64 {
+        self.links()
+            .iter()
+            .find(|link| link.joins(u, v))
+            .map_or(0, |link| link.weight)
     }
-    sum
-}
 
-// Of how many links a meter is an end.
-pub fn links_at(weights: &[u16; 2500], v: usize) -> u64 {
-    let mut n = 0;
-    let mut u: usize = 1;
-    while u < 8 {
-        n = numbers::counted(n, weight_at(weights, u, v) != 0);
-        u += 1;
+    /// The sum of all weights.
+    pub fn total(&self) -> u64 {
+        self.links()
+            .iter()
+            .map(|link| link.weight)
+            .fold(0, u64::wrapping_add)
     }
-    n
+
+    /// The sum of link weights at one meter.
+    pub fn sum_at(&self, v: usize) -> u64 {
+        self.links()
+            .iter()
+            .filter(|link| link.has_end(v))
+            .map(|link| link.weight)
+            .fold(0, u64::wrapping_add)
+    }
+
+    /// Of how many links a meter is an end.
+    pub fn links_at(&self, v: usize) -> usize {
+        self.links().iter().filter(|link| link.has_end(v)).count()
+    }
+
+    /// The site with the links of a subset alone: link k in chain order, from 0, is in where 2^k is in the number.
+    pub fn with_links(&self, subset: u32) -> Site {
+        let mut kept = Site::unlinked(self.meters);
+        let mut rest = subset;
+        for link in self.links() {
+            if rest % 2 == 1 {
+                kept.push(*link);
+            }
+            rest /= 2;
+        }
+        kept
+    }
 }

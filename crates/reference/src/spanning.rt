@@ -1,88 +1,67 @@
 // Spanning trees: "any N - 1 of the image's links over which each meter can be reached from every other, with no root or depth asked; it is within the neighbour limit when no meter is an end of more
 // than d of them, and its weight is the sum of theirs".
-use crate::{numbers, sites};
+use crate::sites::{Link, Site};
 
-// More than any tree weighs, for links that are no tree.
-pub const NONE: u64 = 4294967296;
-
-// 2^n.
-pub fn power_of_two(n: u64) -> u64 {
-    let mut power = 1;
-    let mut k: u64 = 0;
-    while k < n {
-        power = numbers::plus(power, power);
-        k += 1;
-    }
-    power
+/// The meters that have been reached.
+#[derive(Clone, Copy)]
+struct Reached {
+    // Place v is that of meter v, from 1 to 6.
+    marks: [bool; 7],
 }
 
-// The site with the links of a subset alone: link k in chain order, from 0, is in where 2^k is in the number.
-fn chosen(weights: &[u16; 2500], subset: u64) -> [u16; 2500] {
-    let mut kept = [0u16; 2500];
-    let mut rest = subset;
-    let mut pair: usize = 0;
-    while pair < 64 {
-        if sites::link_at(weights, pair) != 0 {
-            if rest % 2 == 1 {
-                let at = 50 * (pair / 8) + pair % 8;
-                kept[at] = weights[at];
-            }
-            rest = rest / 2;
-        }
-        pair += 1;
+impl Reached {
+    /// Meter 1 alone.
+    fn first() -> Reached {
+        let mut marks = [false; 7];
+        marks[1] = true;
+        Reached { marks }
     }
-    kept
-}
 
-// Marks every neighbour of a marked meter. Pair 8u + v is here the way from u to v, whichever is less.
-fn spread(kept: &[u16; 2500], marks: &mut [u8; 8]) {
-    let mut pair: usize = 0;
-    while pair < 64 {
-        if sites::weight_at(kept, pair / 8, pair % 8) != 0 {
-            if numbers::byte_at(marks, pair / 8) == 1 {
-                numbers::put_byte(marks, pair % 8, 1);
-            }
-        }
-        pair += 1;
+    /// Whether a meter has been reached.
+    fn has(&self, v: usize) -> bool {
+        self.marks.get(v) == Some(&true)
     }
-}
 
-// The meters that can be reached from meter 1, in at most N steps.
-fn reached(kept: &[u16; 2500], meters: usize) -> [u8; 8] {
-    let mut marks = [1u8, 0, 0, 0, 0, 0, 0, 0];
-    let mut k: usize = 0;
-    while k < meters {
-        spread(kept, &mut marks);
-        k += 1;
-    }
-    marks
-}
-
-// Whether each meter is marked and an end of no more than d of the links.
-fn all_fit(kept: &[u16; 2500], meters: usize, d: usize, marks: &[u8; 8]) -> bool {
-    let mut v: usize = 0;
-    while v < meters {
-        v += 1;
-        if numbers::byte_at(marks, v) == 0 {
-            return false;
-        }
-        if (d as u64) < sites::links_at(kept, v) {
-            return false;
+    /// Marks a meter.
+    fn mark(&mut self, v: usize) {
+        if v < self.marks.len() {
+            self.marks[v] = true;
         }
     }
-    true
+
+    /// Marks both ends of a link where one of them is marked.
+    fn cross(&mut self, link: &Link) {
+        if self.has(link.u) || self.has(link.v) {
+            self.mark(link.u);
+            self.mark(link.v);
+        }
+    }
 }
 
-// The weight of the links of a subset, where they are a spanning tree within the neighbour limit.
-pub fn tree_weight(weights: &[u16; 2500], meters: usize, d: usize, subset: u64) -> u64 {
-    let kept = chosen(weights, subset);
-    if numbers::plus(sites::links_before(&kept, 64), 1) != meters as u64 {
-        return NONE;
+/// The meters that can be reached from meter 1, in at most N steps.
+fn reach(site: &Site) -> Reached {
+    let mut reached = Reached::first();
+    for _ in 0..site.meters() {
+        for link in site.links() {
+            reached.cross(link);
+        }
     }
-    let marks = reached(&kept, meters);
-    if all_fit(&kept, meters, d, &marks) {
-        sites::total(&kept)
-    } else {
-        NONE
+    reached
+}
+
+/// The weight of all the site's links, where they are a spanning tree within the neighbour limit.
+fn tree_weight(site: &Site, d: usize) -> Option<u64> {
+    if site.links().len() + 1 != site.meters() {
+        return None;
     }
+    let reached = reach(site);
+    let fits = (1..=site.meters()).all(|v| reached.has(v) && site.links_at(v) <= d);
+    if fits { Some(site.total()) } else { None }
+}
+
+/// The least weight of the spanning trees within the neighbour limit, over all subsets of the links.
+pub fn best(site: &Site, d: usize) -> Option<u64> {
+    (0..1u32 << site.links().len())
+        .filter_map(|subset| tree_weight(&site.with_links(subset), d))
+        .min()
 }

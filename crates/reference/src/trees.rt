@@ -1,156 +1,159 @@
 // Kind 3, tree: penalty and energy, by its six sums and the weights. "An arc is a link in one direction, parent first."
-ghost use Rattle.std.specs.Prelude.{◌<◌, ◌≤◌};
+ghost use Rattle.std.specs.Prelude.{◌≤◌};
 
-use crate::{layout, numbers, sites};
+use crate::layout::{Arc, Layout};
+use crate::numbers::{before, bit_at, gap_squared, set};
+use crate::sites::{Link, Site};
 
-// "A is 1 plus the sum of all weights."
-pub fn penalty(weights: &[u16; 2500]) -> u64 {
-    numbers::plus(1, sites::total(weights))
+/// "A is 1 plus the sum of all weights."
+pub fn penalty(site: &Site) -> u64 {
+    site.total().wrapping_add(1)
 }
 
-// The bit of meter v at depth i.
-fn depth_bit(meters: usize, bits: &[u8], v: usize, i: usize) -> u64
-    ensures { result ≤ 1 }
-{
-    numbers::bit_at(bits, layout::depth_number(meters, v, i))
+/// An assignment for a tree, whose bits stand as the layout says.
+#[derive(Clone, Copy)]
+pub struct Assignment<'a> {
+    pub site: &'a Site,
+    pub layout: Layout,
+    pub bits: &'a [u8],
 }
 
-// The bit of the arc from u to v at depth i, 0 where there is no such arc.
-fn arc_bit(weights: &[u16; 2500], meters: usize, bits: &[u8], u: usize, v: usize, i: usize) -> u64 {
-    if sites::weight_at(weights, u, v) == 0 {
-        return 0;
+impl Assignment<'_> {
+    /// The bit of meter v at depth i.
+    fn at_depth(self, v: usize, i: usize) -> u64
+        ensures { result ≤ 1 }
+    {
+        bit_at(self.bits, self.layout.depth(v, i))
     }
-    numbers::bit_at(bits, layout::arc_number(weights, meters, u, v, i))
-}
 
-// How many bits of the two arcs of u and v are set.
-fn arcs_set(weights: &[u16; 2500], meters: usize, bits: &[u8], u: usize, v: usize) -> u64 {
-    if sites::weight_at(weights, u, v) == 0 {
-        return 0;
+    /// The bit of an arc at depth i.
+    fn arc(self, arc: Arc, i: usize) -> u64 {
+        bit_at(self.bits, self.layout.arc(arc, i))
     }
-    let first = layout::link_number(weights, meters, u, v);
-    numbers::set(bits, first, 1, layout::greatest_depth(meters) * 2)
-}
 
-// The depth-i arcs into a meter.
-fn arcs_in(weights: &[u16; 2500], meters: usize, bits: &[u8], v: usize, i: usize) -> u64 {
-    let mut count = 0;
-    let mut u: usize = 0;
-    while u < meters {
-        u += 1;
-        count = numbers::plus(count, arc_bit(weights, meters, bits, u, v, i));
+    /// How many bits of the two arcs of link k are set.
+    fn arcs_set(self, k: usize) -> u64 {
+        set(self.bits, self.layout.link(k), self.layout.link_bits())
     }
-    count
-}
 
-// "per meter and depth i ≥ 1 (its depth-i bit - depth-i arcs into it)²", of one meter.
-fn entries(weights: &[u16; 2500], meters: usize, bits: &[u8], v: usize) -> u64 {
-    let deepest = layout::greatest_depth(meters);
-    let mut sum = 0;
-    let mut i: usize = 0;
-    while i < deepest {
-        i += 1;
-        let arcs = arcs_in(weights, meters, bits, v, i);
-        sum = numbers::plus(
-            sum,
-            numbers::gap_squared(depth_bit(meters, bits, v, i), arcs),
-        );
+    /// The depth-i arcs into a meter.
+    fn arcs_in(self, v: usize, i: usize) -> u64 {
+        self.site
+            .links()
+            .iter()
+            .enumerate()
+            .filter(|(_, link)| link.has_end(v))
+            .map(|(k, link)| self.arc(into(k, link, v), i))
+            .fold(0, u64::wrapping_add)
     }
-    sum
-}
 
-// All arc bits in or out of a meter.
-fn arcs_at(weights: &[u16; 2500], meters: usize, bits: &[u8], v: usize) -> u64 {
-    let mut count = 0;
-    let mut u: usize = 0;
-    while u < meters {
-        u += 1;
-        count = numbers::plus(count, arcs_set(weights, meters, bits, u, v));
+    /// "per meter and depth i ≥ 1 (its depth-i bit - depth-i arcs into it)²", of one meter.
+    fn entries(self, v: usize) -> u64 {
+        (1..=self.layout.greatest_depth())
+            .map(|i| gap_squared(self.at_depth(v, i), self.arcs_in(v, i)))
+            .fold(0, u64::wrapping_add)
     }
-    count
-}
 
-// Of one meter: "(1 - its neighbour-count bits)²" and "(sum of j over those set - all arc bits in or out of it)²".
-fn count_sum(weights: &[u16; 2500], meters: usize, d: usize, bits: &[u8], v: usize) -> u64 {
-    let first = layout::count_number(weights, meters, d, v, 1);
-    let counts = numbers::gap_squared(1, numbers::set(bits, first, 1, d));
-    let arcs = arcs_at(weights, meters, bits, v);
-    numbers::plus(
-        counts,
-        numbers::gap_squared(numbers::sum_set(bits, first, d), arcs),
-    )
-}
-
-// "(1 - its depth bits)²", of one meter.
-fn depth_sum(meters: usize, bits: &[u8], v: usize) -> u64 {
-    let first = layout::depth_number(meters, v, 0);
-    let depths = layout::greatest_depth(meters) + 1;
-    numbers::gap_squared(1, numbers::set(bits, first, 1, depths))
-}
-
-// The second to fifth sums.
-fn meter_sums(weights: &[u16; 2500], meters: usize, d: usize, bits: &[u8]) -> u64 {
-    let mut sum = 0;
-    let mut v: usize = 0;
-    while v < meters {
-        v += 1;
-        sum = numbers::plus(sum, depth_sum(meters, bits, v));
-        sum = numbers::plus(sum, entries(weights, meters, bits, v));
-        sum = numbers::plus(sum, count_sum(weights, meters, d, bits, v));
+    /// All arc bits in or out of a meter.
+    fn arcs_at(self, v: usize) -> u64 {
+        self.site
+            .links()
+            .iter()
+            .enumerate()
+            .filter(|(_, link)| link.has_end(v))
+            .map(|(k, _)| self.arcs_set(k))
+            .fold(0, u64::wrapping_add)
     }
-    sum
-}
 
-// "(2 - [u at i-1] - [v at i])".
-fn missing_ends(meters: usize, bits: &[u8], u: usize, v: usize, i: usize) -> u64 {
-    2 - depth_bit(meters, bits, u, numbers::before(i)) - depth_bit(meters, bits, v, i)
-}
-
-// "per arc from u to v at depth i, its bit times (2 - [u at i-1] - [v at i])", of one arc.
-fn arc_sum(weights: &[u16; 2500], meters: usize, bits: &[u8], u: usize, v: usize) -> u64 {
-    let deepest = layout::greatest_depth(meters);
-    let mut sum = 0;
-    let mut i: usize = 0;
-    while i < deepest {
-        i += 1;
-        let bit = arc_bit(weights, meters, bits, u, v, i);
-        sum = numbers::plus(
-            sum,
-            numbers::times(bit, missing_ends(meters, bits, u, v, i)),
-        );
+    /// "sum of j over those set", of a meter's neighbour-count bits.
+    fn counted(self, v: usize) -> u64 {
+        (1..=self.layout.limit)
+            .map(|j| (j as u64).wrapping_mul(bit_at(self.bits, self.layout.count(v, j))))
+            .fold(0, u64::wrapping_add)
     }
-    sum
-}
 
-// The sixth sum. Pair 8u + v is here the arc from u to v, whichever is less.
-fn arc_sums(weights: &[u16; 2500], meters: usize, bits: &[u8]) -> u64 {
-    let mut sum = 0;
-    let mut pair: usize = 0;
-    while pair < 64 {
-        sum = numbers::plus(sum, arc_sum(weights, meters, bits, pair / 8, pair % 8));
-        pair += 1;
+    /// Of one meter: "(1 - its neighbour-count bits)²" and "(sum of j over those set - all arc bits in or out of it)²".
+    fn count_sum(self, v: usize) -> u64 {
+        let counts = set(self.bits, self.layout.count(v, 1), self.layout.limit);
+        gap_squared(1, counts).wrapping_add(gap_squared(self.counted(v), self.arcs_at(v)))
     }
-    sum
-}
 
-// "the weight of every arc bit set", link by link.
-fn arc_weights(weights: &[u16; 2500], meters: usize, bits: &[u8]) -> u64 {
-    let mut sum = 0;
-    let mut pair: usize = 0;
-    while pair < 64 {
-        let set = arcs_set(weights, meters, bits, pair / 8, pair % 8);
-        sum = numbers::plus(sum, numbers::times(sites::link_at(weights, pair), set));
-        pair += 1;
+    /// "(1 - its depth bits)²", of one meter.
+    fn depth_sum(self, v: usize) -> u64 {
+        let layout = self.layout;
+        gap_squared(1, set(self.bits, layout.depth(v, 0), layout.depths()))
     }
-    sum
+
+    /// The second to fifth sums, of one meter.
+    fn meter_sum(self, v: usize) -> u64 {
+        self.depth_sum(v)
+            .wrapping_add(self.entries(v))
+            .wrapping_add(self.count_sum(v))
+    }
+
+    /// "(1 - number of depth-0 bits)²".
+    fn root_sum(self) -> u64 {
+        let roots = (1..=self.site.meters())
+            .map(|v| self.at_depth(v, 0))
+            .fold(0, u64::wrapping_add);
+        gap_squared(1, roots)
+    }
+
+    /// "(2 - [u at i-1] - [v at i])".
+    fn missing_ends(self, u: usize, v: usize, i: usize) -> u64 {
+        2 - self.at_depth(u, before(i)) - self.at_depth(v, i)
+    }
+
+    /// "per arc from u to v at depth i, its bit times (2 - [u at i-1] - [v at i])", of one arc.
+    fn arc_sum(self, arc: Arc, u: usize, v: usize) -> u64 {
+        (1..=self.layout.greatest_depth())
+            .map(|i| { self.arc(arc, i).wrapping_mul(self.missing_ends(u, v, i)) })
+            .fold(0, u64::wrapping_add)
+    }
+
+    /// The same, of the two arcs of link k.
+    fn link_sum(self, k: usize, link: &Link) -> u64 {
+        self.arc_sum(into(k, link, link.v), link.u, link.v)
+            .wrapping_add(self.arc_sum(into(k, link, link.u), link.v, link.u))
+    }
+
+    /// The sixth sum.
+    fn arc_sums(self) -> u64 {
+        self.site
+            .links()
+            .iter()
+            .enumerate()
+            .map(|(k, link)| self.link_sum(k, link))
+            .fold(0, u64::wrapping_add)
+    }
+
+    /// "the weight of every arc bit set", link by link.
+    fn arc_weights(self) -> u64 {
+        self.site
+            .links()
+            .iter()
+            .enumerate()
+            .map(|(k, link)| link.weight.wrapping_mul(self.arcs_set(k)))
+            .fold(0, u64::wrapping_add)
+    }
+
+    /// "A times the sum of" the six sums, the first being "(1 - number of depth-0 bits)²", "plus the weight of every arc bit set".
+    pub fn energy(self, a: u64) -> u64 {
+        let of_meters = (1..=self.site.meters())
+            .map(|v| self.meter_sum(v))
+            .fold(0, u64::wrapping_add);
+        let sums = self
+            .root_sum()
+            .wrapping_add(of_meters)
+            .wrapping_add(self.arc_sums());
+        a.wrapping_mul(sums).wrapping_add(self.arc_weights())
+    }
 }
 
-// "A times the sum of" the six sums, the first being "(1 - number of depth-0 bits)²", "plus the weight of every arc bit set".
-pub fn energy(weights: &[u16; 2500], meters: usize, d: usize, a: u64, bits: &[u8]) -> u64 {
-    let depths = layout::greatest_depth(meters) + 1;
-    let first = numbers::gap_squared(1, numbers::set(bits, 0, depths, meters));
-    let of_meters = numbers::plus(first, meter_sums(weights, meters, d, bits));
-    let sums = numbers::plus(of_meters, arc_sums(weights, meters, bits));
-    let penalties = numbers::times(a, sums);
-    numbers::plus(penalties, arc_weights(weights, meters, bits))
+/// The arc of link k into one of its ends.
+fn into(k: usize, link: &Link, v: usize) -> Arc {
+    Arc {
+        link: k,
+        back: link.u == v,
+    }
 }

@@ -1,241 +1,172 @@
 // Energies and decoded plans of assignments. The bits behind those of the case are 0.
-use crate::calls::{Case, Plan};
-use crate::{bytes, calls, candidates, counts, rows};
+use crate::calls::{self, Plan};
+use crate::cases::Case;
+use crate::counts::{Counts, Subject};
+use crate::draws::Draws;
+use crate::slices::{List, PATTERN, front, front_mut};
+use crate::{Run, refusals};
+use reference::{Code, Kind};
 
-// The least of some energies, how many have it, and how many are below the penalty.
+/// How many assignments of a larger case are drawn.
+const DRAWN: usize = 40;
+
+/// The least of some energies, how many have it, and how many are below the penalty.
 #[derive(Clone, Copy)]
 pub struct Least {
-    pub energy: u64,
+    pub energy: Option<u64>,
     pub count: u64,
     pub below: u64,
 }
 
-// No energy.
-pub const NONE: u64 = 18446744073709551615;
-
-// How many assignments of a larger case are drawn.
-const DRAWN: usize = 40;
-
-// Of no energies.
-pub fn none() -> Least {
-    Least {
-        energy: NONE,
+impl Least {
+    /// Of no energies.
+    pub const NONE: Least = Least {
+        energy: None,
         count: 0,
         below: 0,
+    };
+
+    /// One energy more, and whether it is below the penalty.
+    pub fn add(&mut self, energy: u64, below: bool) {
+        self.below = self.below.wrapping_add(u64::from(below));
+        if self.energy == Some(energy) {
+            self.count = self.count.wrapping_add(1);
+        } else if self.energy.is_none_or(|least| energy < least) {
+            self.energy = Some(energy);
+            self.count = 1;
+        }
     }
 }
 
-// One more where something is so.
-fn more(n: u64, so: bool) -> u64 {
-    if so {
-        std::num::wrapping_add_u64(n, 1)
-    } else {
-        n
-    }
-}
-
-// With one energy more, where it is one.
-pub fn with(l: Least, energy: u64, penalty: u64) -> Least {
-    if energy == NONE {
-        return l;
-    }
-    let below = more(l.below, energy < penalty);
-    if energy < l.energy {
-        return Least {
-            energy,
-            count: 1,
-            below,
-        };
-    }
-    Least {
-        energy: l.energy,
-        count: more(l.count, energy == l.energy),
-        below,
-    }
-}
-
-// Channels: plan, weight and number repaired as the reference says, and no more together than the energy.
-fn repair_agrees(
-    weights: &[u16; 2500],
-    c: Case,
-    bits: &[u8],
-    plan: &[u8; 8],
-    p: Plan,
+/// Channels: plan, weight and number repaired as the reference says, and no more together than the energy.
+fn mend_agrees(
+    case: &Case<'_>,
+    n: usize,
+    bits: &Code,
+    plan: &List,
+    given: Plan,
     energy: u64,
 ) -> bool {
-    let mut expected = [bytes::PATTERN; 8];
-    let repaired = reference::repair(weights, c.meters, c.size, bits, &mut expected);
-    let weight = reference::weight(weights, c.meters, c.ask.kind, &expected);
-    if energy < std::num::wrapping_add_u64(weight, repaired) {
-        return false;
-    }
-    if calls::is_plan(p, weight, repaired) {
-        bytes::same_plan(plan, &expected)
-    } else {
-        false
+    let mut expected = [PATTERN; 8];
+    let mended = front_mut(&mut expected, case.site.meters());
+    let repaired = case.site.mend(n, bits, mended) as u64;
+    let weight = case
+        .site
+        .weight_of(Kind::Channels(n), case.plan_in(&expected));
+    weight.wrapping_add(repaired) <= energy
+        && given == Plan { weight, repaired }
+        && *plan == expected
+}
+
+/// Groups and trees: the plan is one whose code the bits are, with its weight and 0 repaired.
+fn code_agrees(case: &Case<'_>, kind: Kind, bits: &Code, plan: &List, given: Plan) -> bool {
+    let plan = case.plan_in(plan);
+    let weight = case.site.weight_of(kind, plan);
+    given
+        == Plan {
+            weight,
+            repaired: 0,
+        }
+        && case.site.code(kind, plan) == Some(*bits)
+}
+
+/// The last refusals of decoding: a value that no bit has, and no plan, which groups and trees have below the penalty.
+fn decodable(case: &Case<'_>, energy: u64) -> Result<(), u64> {
+    case.unflawed()?;
+    match case.kind {
+        Some(Kind::Groups(_) | Kind::Tree(_)) if case.penalty <= energy => Err(refusals::NO_PLAN),
+        _ => Ok(()),
     }
 }
 
-// Groups and trees: the plan is one whose code the bits are, with its weight and 0 repaired.
-fn code_agrees(weights: &[u16; 2500], c: Case, bits: &[u8; 128], plan: &[u8; 8], p: Plan) -> bool {
-    let mut code = [0u8; 128];
-    if !candidates::code_of(weights, c, plan, &mut code) {
-        return false;
-    }
-    if calls::is_plan(p, reference::weight(weights, c.meters, c.ask.kind, plan), 0) {
-        bytes::same_code(&code, bits)
-    } else {
-        false
+/// Whether a plan that was given is that of the bits.
+fn plan_agrees(case: &Case<'_>, bits: &Code, energy: u64, plan: &List, given: Plan) -> bool {
+    match case.kind {
+        Some(Kind::Channels(n)) => mend_agrees(case, n, bits, plan, given, energy),
+        Some(kind) => code_agrees(case, kind, bits, plan, given),
+        None => false,
     }
 }
 
-// The last refusals of decoding: a value that no bit has, and no plan, which groups and trees have below the penalty.
-fn last_number(c: Case, energy: u64) -> u64 {
-    if c.flaw != 0 {
-        return c.flaw;
+/// Whether decode gives the plan, or the refusal's number and leaves the plan unaltered.
+fn decode_agrees(case: &Case<'_>, bits: &Code, energy: u64, expected: Result<(), u64>) -> bool {
+    let mut plan = [PATTERN; 8];
+    let lent = front_mut(&mut plan, case.lent_plan);
+    let given = calls::decode(case.image, case.ask, front(bits, case.lent_bits), lent);
+    match (expected, given) {
+        (Ok(()), Ok(given)) => plan_agrees(case, bits, energy, &plan, given),
+        (Err(expected), Err(number)) => number == expected && plan == [PATTERN; 8],
+        _ => false,
     }
-    if c.ask.kind == 1 {
-        return 0;
-    }
-    if energy < c.penalty { 0 } else { 12 }
 }
 
-// Whether decode gives the plan, or the refusal's number and leaves the plan unaltered.
-fn decode_agrees(
-    image: &[u8],
-    weights: &[u16; 2500],
-    c: Case,
-    bits: &[u8; 128],
-    energy: u64,
-    number: u64,
-) -> bool {
-    let mut plan = [bytes::PATTERN; 8];
-    let p = calls::decode(image, c, bits, &mut plan);
-    if p.refusal != number {
-        return false;
-    }
-    if number != 0 {
-        return bytes::same_plan(&plan, &[bytes::PATTERN; 8]);
-    }
-    if c.ask.kind == 1 {
-        return repair_agrees(weights, c, bits, &plan, p, energy);
-    }
-    code_agrees(weights, c, bits, &plan, p)
-}
-
-// One assignment; gives its energy.
-pub fn compare(
-    image: &[u8],
-    weights: &[u16; 2500],
-    c: Case,
-    bits: &[u8; 128],
-    counts: &mut [u64; 130],
-) -> u64 {
-    let energy = rows::energy_of(weights, c, bits);
-    let number = calls::number_of(c, c.meters, c.flaw);
-    let answer = plans::energy(image, c.ask, bytes::front(bits, c.lent_bits));
-    counts::called(
-        counts,
-        counts::ENERGIES,
-        number,
-        calls::is_value(answer, number, energy),
+/// One assignment; gives its energy.
+pub fn compare(case: &Case<'_>, bits: &Code, counts: &mut Counts) -> u64 {
+    let energy = case.energy_of(bits);
+    let expected = case.answer(case.site.meters(), case.unflawed());
+    let given = calls::energy(case.image, case.ask, front(bits, case.lent_bits));
+    counts.called(
+        Subject::Energies,
+        expected,
+        given == expected.map(|()| energy.cast_signed()),
     );
-    let last = calls::number_of(c, c.lent_plan, last_number(c, energy));
-    counts::called(
-        counts,
-        counts::DECODED,
-        last,
-        decode_agrees(image, weights, c, bits, energy, last),
+    let expected = case.answer(case.lent_plan, decodable(case, energy));
+    counts.called(
+        Subject::Decoded,
+        expected,
+        decode_agrees(case, bits, energy, expected),
     );
     energy
 }
 
-// Assignment number k: bit i is digit i of k to the base 2.
-fn bits_of(k: usize) -> [u8; 128] {
-    let mut bits = [0u8; 128];
+/// Assignment number k: bit i is digit i of k to the base 2.
+fn bits_of(k: usize) -> Code {
+    let mut bits = [0; 128];
     let mut rest = k;
-    let mut i: usize = 0;
-    while i < 32 {
-        bits[i] = (rest % 2) as u8;
-        rest = rest / 2;
-        i += 1;
+    for bit in front_mut(&mut bits, 32) {
+        *bit = (rest % 2) as u8;
+        rest /= 2;
     }
     bits
 }
 
-// Draws the first n bits.
-pub fn draw_bits(n: usize, counts: &mut [u64; 130]) -> [u8; 128] {
-    let mut bits = [0u8; 128];
-    let mut i: usize = 0;
-    while i < n {
-        let at = i % 128;
-        bits[at] = (counts::below(counts, 2) % 2) as u8;
-        i += 1;
+/// Draws the first n bits.
+pub fn draw_bits(n: usize, draws: &mut Draws) -> Code {
+    let mut bits = [0; 128];
+    for bit in front_mut(&mut bits, n) {
+        *bit = draws.below(2) as u8;
     }
     bits
 }
 
-// base^n, for small numbers.
+/// base^n, for small numbers.
 pub fn power(base: usize, n: usize) -> usize {
-    let mut p: usize = 1;
-    let mut i: usize = 0;
-    while i < n {
-        p = (p % 4294967296) * (base % 4294967296);
-        i += 1;
-    }
-    p
+    (0..n).fold(1, |power, _| power.wrapping_mul(base))
 }
 
-// Every assignment.
-pub fn compare_all(image: &[u8], weights: &[u16; 2500], c: Case, counts: &mut [u64; 130]) -> Least {
-    let end = power(2, c.bits);
-    let mut least = none();
-    let mut k: usize = 0;
-    while k < end {
-        let bits = bits_of(k);
-        let energy = compare(image, weights, c, &bits, counts);
-        least = with(least, energy, c.penalty);
-        k += 1;
+/// Every assignment.
+pub fn compare_all(case: &Case<'_>, counts: &mut Counts) -> Least {
+    let mut least = Least::NONE;
+    for k in 0..power(2, case.bits) {
+        let energy = compare(case, &bits_of(k), counts);
+        least.add(energy, energy < case.penalty);
     }
     least
 }
 
-// Random assignments.
-pub fn compare_some(image: &[u8], weights: &[u16; 2500], c: Case, counts: &mut [u64; 130]) {
-    let mut k: usize = 0;
-    while k < DRAWN {
-        let bits = draw_bits(c.bits, counts);
-        let energy = compare(image, weights, c, &bits, counts);
-        k += 1;
+/// Random assignments.
+pub fn compare_some(case: &Case<'_>, run: &mut Run) {
+    for _ in 0..DRAWN {
+        let bits = draw_bits(case.bits, &mut run.draws);
+        compare(case, &bits, &mut run.counts);
     }
 }
 
-// An assignment with another value at one place.
-pub fn with_bit(bits: &[u8; 128], at: usize, value: u8) -> [u8; 128] {
-    let mut other = *bits;
-    let k = at % 128;
-    other[k] = value;
-    other
-}
-
-// What a bit is when it is flipped.
-fn flipped(bits: &[u8; 128], at: usize) -> u8 {
-    let k = at % 128;
-    if bits[k] == 0 { 1 } else { 0 }
-}
-
-// An assignment with each one of its bits flipped.
-pub fn compare_flipped(
-    image: &[u8],
-    weights: &[u16; 2500],
-    c: Case,
-    bits: &[u8; 128],
-    counts: &mut [u64; 130],
-) {
-    let mut i: usize = 0;
-    while i < c.bits {
-        let other = with_bit(bits, i, flipped(bits, i));
-        let energy = compare(image, weights, c, &other, counts);
-        i += 1;
+/// An assignment with each one of its bits flipped.
+pub fn compare_flipped(case: &Case<'_>, bits: &Code, counts: &mut Counts) {
+    for i in 0..case.bits.min(128) {
+        let mut other = *bits;
+        other[i] = u8::from(bits[i] == 0);
+        compare(case, &other, counts);
     }
 }

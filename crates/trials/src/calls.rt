@@ -1,151 +1,134 @@
-// Cases, and what the library's calls answer for them.
-use crate::{bytes, counts};
-use plans::{Ask, Decoded, Number};
+// The calls of the library. What each answers becomes a `Result` here, whose error is the refusal's number: no other file knows the forms that the library's answers have.
+use crate::edits::Edit;
+pub use plans::Ask;
+use plans::{Decoded, Number};
 
-// What is asked for one site, and what is lent to the calls.
-#[derive(Clone, Copy)]
-pub struct Case {
-    pub meters: usize,
-    pub ask: Ask,
-    // the parameter for the reference, 0 where it is refused
-    pub size: usize,
-    // the bit count and the penalty, as the reference says
-    pub bits: usize,
-    pub penalty: u64,
-    // the refusal of image and ask, or 0
-    pub refusal: u64,
-    // how many bits and how many bytes of a plan are lent
-    pub lent_bits: usize,
-    pub lent_plan: usize,
-    // 11 where a bit has a value that no bit has, or 0
-    pub flaw: u64,
-    // whether every assignment is compared
-    pub small: bool,
-}
-
-// What asks for a kind with a parameter and a margin.
-pub fn asks(kind: u64, parameter: u64, margin: u64) -> Ask {
-    Ask {
-        kind,
-        parameter,
-        margin,
-    }
-}
-
-// Margins, of which the first 12 are accepted: 2^32 is 0 to whoever keeps four bytes of it.
-const MARGINS: [u64; 16] = [
-    0,
-    1,
-    0,
-    2,
-    0,
-    5,
-    0,
-    1000,
-    0,
-    65535,
-    999999,
-    1000000,
-    1000001,
-    4294967296,
-    1000001,
-    18446744073709551615,
-];
-
-// How many of the margins are accepted, and how many there are.
-pub const ACCEPTED_MARGINS: usize = 12;
-
-pub const ALL_MARGINS: usize = 16;
-
-// One of the first n margins.
-pub fn draw_margin(counts: &mut [u64; 130], n: usize) -> u64 {
-    let margins = MARGINS;
-    let k = counts::below(counts, n) % 16;
-    margins[k]
-}
-
-// A refusal's number, or 0 and what there is of a plan beside its bytes.
-#[derive(Clone, Copy)]
+/// What decoding gives beside the bytes of the plan.
+#[derive(Debug, Clone, Copy, PartialEq, Eq)]
 pub struct Plan {
-    pub refusal: u64,
     pub weight: u64,
     pub repaired: u64,
 }
 
-// What decode answers. A refusal with the number 0 is none: 99 stands for it.
-fn plan_of(answer: Decoded) -> Plan {
+/// A link that was read out of an image.
+#[derive(Debug, Clone, Copy, PartialEq, Eq)]
+pub struct Link {
+    pub u: usize,
+    pub v: usize,
+    pub weight: u16,
+}
+
+/// What was read out of an image: the meters, and the links in the first `count` places. Fixed places, as the library lends them: a `Vec` would want an allocator all the way down.
+#[derive(Drop)]
+pub struct Reading {
+    pub meters: usize,
+    pub count: usize,
+    pub links: [Link; 256],
+}
+
+/// Nothing but a refusal's number, which is 0 where there is none.
+fn done(number: u64) -> Result<(), u64> {
+    if number == 0 { Ok(()) } else { Err(number) }
+}
+
+/// A number, or the refusal's.
+fn value(answer: Number) -> Result<i64, u64> {
     match answer {
-        Decoded::Plan { weight, repaired } => Plan {
-            refusal: 0,
-            weight,
-            repaired,
-        },
-        Decoded::Refused(number) => Plan {
-            refusal: if number == 0 { 99 } else { number },
-            weight: 0,
-            repaired: 0,
-        },
+        Number::Value(z) => Ok(z),
+        Number::Refused(number) => Err(number),
     }
 }
 
-// A whole number below 2^62.
-fn positive(x: u64) -> i64 {
-    (x % 4611686018427387904) as i64
+/// Makes the image that of a site with no links.
+pub fn begin(image: &mut [u8], meters: usize) -> Result<(), u64> {
+    done(plans::begin(image, meters as u64))
 }
 
-// plus - minus.
-pub fn signed(plus: u64, minus: u64) -> i64 {
-    if plus < minus {
-        return -1 - positive(minus - plus - 1);
-    }
-    positive(plus - minus)
-}
-
-// Whether an answer is that value, where the number is 0, or else the refusal with that number.
-pub fn is_value(answer: Number, number: u64, value: u64) -> bool {
-    match answer {
-        Number::Value(z) => both(number == 0, z == signed(value, 0)),
-        Number::Refused(refusal) => both(number != 0, refusal == number),
+/// Makes an edit of the image.
+pub fn edit(image: &mut [u8], edit: Edit) -> Result<(), u64> {
+    match edit {
+        Edit::Begin { meters } => begin(image, meters),
+        Edit::Remove { u, v } => done(plans::remove(image, u as u64, v as u64)),
+        Edit::Add { u, v, weight } => done(plans::add(image, u as u64, v as u64, weight)),
     }
 }
 
-// Whether both are so.
-fn both(a: bool, b: bool) -> bool {
-    if a { b } else { false }
+/// Checks the image.
+pub fn check(image: &[u8]) -> Result<(), u64> {
+    done(site::check(image))
 }
 
-// Whether an answer is a plan of that weight and number repaired.
-pub fn is_plan(p: Plan, weight: u64, repaired: u64) -> bool {
-    if p.refusal != 0 {
-        return false;
+/// Reads the image.
+pub fn read(image: &[u8]) -> Result<Reading, u64> {
+    let mut us = [0u8; 256];
+    let mut vs = [0u8; 256];
+    let mut ws = [0u16; 256];
+    let read = site::read(image, &mut us, &mut vs, &mut ws);
+    done(read.refusal)?;
+    let none = Link {
+        u: 0,
+        v: 0,
+        weight: 0,
+    };
+    let mut links = [none; 256];
+    for (k, link) in links.iter_mut().enumerate() {
+        *link = Link {
+            u: usize::from(us[k]),
+            v: usize::from(vs[k]),
+            weight: ws[k],
+        };
     }
-    if p.weight != weight {
-        return false;
-    }
-    p.repaired == repaired
+    Ok(Reading {
+        meters: read.meters,
+        count: read.count,
+        links,
+    })
 }
 
-// The refusals of energies, codes and decoding: of image and ask, of a length, and a later one.
-pub fn number_of(c: Case, plan: usize, later: u64) -> u64 {
-    if c.refusal != 0 {
-        return c.refusal;
-    }
-    if c.lent_bits != c.bits {
-        return 9;
-    }
-    if plan == c.meters { later } else { 9 }
+/// The number of bits.
+pub fn bit_count(image: &[u8], ask: Ask) -> Result<i64, u64> {
+    value(plans::bit_count(image, ask))
 }
 
-// Decodes the bits that are lent into the bytes of a plan that are lent.
-pub fn decode(image: &[u8], c: Case, bits: &[u8], plan: &mut [u8]) -> Plan {
-    let n = bytes::room(c.lent_plan, plan.len());
-    let lent = bytes::front(bits, c.lent_bits);
-    plan_of(plans::decode(image, c.ask, lent, &mut plan[..n]))
+/// The penalty.
+pub fn penalty(image: &[u8], ask: Ask) -> Result<i64, u64> {
+    value(plans::penalty(image, ask))
 }
 
-// Codes the bytes of a plan that are lent into the bits that are lent.
-pub fn encode(image: &[u8], c: Case, plan: &[u8], bits: &mut [u8]) -> u64 {
-    let n = bytes::room(c.lent_bits, bits.len());
-    let lent = bytes::front(plan, c.lent_plan);
-    plans::encode(image, c.ask, lent, &mut bits[..n])
+/// The constant of the table.
+pub fn constant(image: &[u8], ask: Ask) -> Result<i64, u64> {
+    value(plans::constant(image, ask))
+}
+
+/// The row as the front part of what is lent, empty where it is refused.
+pub fn row<'a>(image: &[u8], ask: Ask, i: u64, out: &'a mut [i64]) -> &'a mut [i64] {
+    plans::row(image, ask, i, out)
+}
+
+/// Whether `row` refuses the same.
+pub fn check_row(image: &[u8], ask: Ask, i: u64, out: &[i64]) -> Result<(), u64> {
+    done(plans::row_refusal(image, ask, i, out))
+}
+
+/// Puts the row in front of what is lent.
+pub fn fill_row(image: &[u8], ask: Ask, i: u64, out: &mut [i64]) -> Result<(), u64> {
+    done(plans::fill_row(image, ask, i, out))
+}
+
+/// The energy of an assignment.
+pub fn energy(image: &[u8], ask: Ask, bits: &[u8]) -> Result<i64, u64> {
+    value(plans::energy(image, ask, bits))
+}
+
+/// Puts the code of a plan into the bits.
+pub fn encode(image: &[u8], ask: Ask, plan: &[u8], bits: &mut [u8]) -> Result<(), u64> {
+    done(plans::encode(image, ask, plan, bits))
+}
+
+/// Puts the plan of an assignment into the bytes of a plan.
+pub fn decode(image: &[u8], ask: Ask, bits: &[u8], plan: &mut [u8]) -> Result<Plan, u64> {
+    match plans::decode(image, ask, bits, plan) {
+        Decoded::Plan { weight, repaired } => Ok(Plan { weight, repaired }),
+        Decoded::Refused(number) => Err(number),
+    }
 }

@@ -1,115 +1,92 @@
 // All lists of numbers as plans, those that are none too.
-use crate::assignments::Least;
-use crate::calls::Case;
-use crate::{assignments, bytes, calls, counts};
+use crate::assignments::{self, Least};
+use crate::calls::{self, Plan};
+use crate::cases::Case;
+use crate::counts::{Counts, Subject};
+use crate::refusals;
+use crate::slices::{List, PATTERN, front, front_mut};
+use reference::{Code, Kind};
 
-// Fills the bits with the code of a list, as the reference says; whether the list is a plan.
-pub fn code_of(weights: &[u16; 2500], c: Case, list: &[u8; 8], code: &mut [u8; 128]) -> bool {
-    reference::code(weights, c.meters, c.ask.kind, c.size, list, code);
-    reference::is_plan(weights, c.meters, c.ask.kind, c.size, list)
-}
-
-// Whether encode gives the code, or the refusal's number and leaves the bits unaltered.
-fn encode_agrees(image: &[u8], c: Case, list: &[u8; 8], code: &[u8; 128], number: u64) -> bool {
-    let mut bits = [bytes::PATTERN; 128];
-    if calls::encode(image, c, list, &mut bits) != number {
-        return false;
-    }
-    if number != 0 {
-        return bytes::same_code(&bits, &[bytes::PATTERN; 128]);
-    }
-    bytes::same(bytes::front(&bits, c.bits), bytes::front(code, c.bits))
-}
-
-// Whether a plan's code is decoded to the plan, with its weight and nothing repaired.
-fn back_agrees(image: &[u8], c: Case, list: &[u8; 8], code: &[u8; 128], weight: u64) -> bool {
-    let mut plan = [0u8; 8];
-    let p = calls::decode(image, c, code, &mut plan);
-    if calls::is_plan(p, weight, 0) {
-        bytes::same_plan(&plan, list)
-    } else {
-        false
+/// Whether encode gives the code, or the refusal's number and leaves the bits unaltered.
+fn encode_agrees(case: &Case<'_>, list: &List, expected: Result<Code, u64>) -> bool {
+    let mut bits = [PATTERN; 128];
+    let lent = front_mut(&mut bits, case.lent_bits);
+    let given = calls::encode(case.image, case.ask, front(list, case.lent_plan), lent);
+    match (expected, given) {
+        (Ok(code), Ok(())) => *front(&bits, case.bits) == *front(&code, case.bits),
+        (Err(expected), Err(number)) => number == expected && bits == [PATTERN; 128],
+        _ => false,
     }
 }
 
-// Whether the energy of a plan's code is its weight, of groups twice that.
-fn energy_agrees(c: Case, weight: u64, energy: u64) -> bool {
-    if c.ask.kind == 2 {
-        energy == std::num::wrapping_add_u64(weight, weight)
-    } else {
-        energy == weight
+/// Whether a plan's code is decoded to the plan, with its weight and nothing repaired.
+fn back_agrees(case: &Case<'_>, list: &List, code: &Code, weight: u64) -> bool {
+    let mut plan = [0; 8];
+    let lent = front_mut(&mut plan, case.lent_plan);
+    let given = calls::decode(case.image, case.ask, front(code, case.lent_bits), lent);
+    let expected = Plan {
+        weight,
+        repaired: 0,
+    };
+    given == Ok(expected) && plan == *list
+}
+
+/// Whether the energy of a plan's code is its weight, of groups twice that.
+fn energy_agrees(kind: Kind, weight: u64, energy: u64) -> bool {
+    match kind {
+        Kind::Groups(_) => energy == weight.wrapping_mul(2),
+        Kind::Channels(_) | Kind::Tree(_) => energy == weight,
     }
 }
 
-// A plan's code; gives its energy.
-fn compare_code(
-    image: &[u8],
-    weights: &[u16; 2500],
-    c: Case,
-    list: &[u8; 8],
-    code: &[u8; 128],
-    counts: &mut [u64; 130],
-) -> u64 {
-    let weight = reference::weight(weights, c.meters, c.ask.kind, list);
-    let energy = assignments::compare(image, weights, c, code, counts);
-    counts::compared(counts, counts::CODES, energy_agrees(c, weight, energy));
-    counts::compared(
-        counts,
-        counts::CODES,
-        back_agrees(image, c, list, code, weight),
-    );
-    if !c.small {
-        assignments::compare_flipped(image, weights, c, code, counts);
+/// A plan's code; gives its energy.
+fn compare_code(case: &Case<'_>, kind: Kind, list: &List, code: &Code, counts: &mut Counts) -> u64 {
+    let weight = case.site.weight_of(kind, case.plan_in(list));
+    let energy = assignments::compare(case, code, counts);
+    counts.compared(Subject::Codes, energy_agrees(kind, weight, energy));
+    counts.compared(Subject::Codes, back_agrees(case, list, code, weight));
+    if !case.small {
+        assignments::compare_flipped(case, code, counts);
     }
     energy
 }
 
-// A list; gives the energy of its code, where it is a plan and nothing is refused.
-pub fn compare_list(
-    image: &[u8],
-    weights: &[u16; 2500],
-    c: Case,
-    list: &[u8; 8],
-    counts: &mut [u64; 130],
-) -> u64 {
-    let mut code = [0u8; 128];
-    let is_plan = code_of(weights, c, list, &mut code);
-    let number = calls::number_of(c, c.lent_plan, if is_plan { 0 } else { 12 });
-    counts::called(
-        counts,
-        counts::LISTS,
-        number,
-        encode_agrees(image, c, list, &code, number),
-    );
-    if number != 0 {
-        return assignments::NONE;
-    }
-    compare_code(image, weights, c, list, &code, counts)
+/// A list; gives the energy of its code, where it is a plan and nothing is refused.
+pub fn compare_list(case: &Case<'_>, list: &List, counts: &mut Counts) -> Option<u64> {
+    let plan = case.plan_in(list);
+    let code = case
+        .kind
+        .and_then(|kind| case.site.code(kind, plan))
+        .ok_or(refusals::NO_PLAN);
+    let answer = case.answer(case.lent_plan, code.map(|_| ()));
+    let expected = answer.and(code);
+    counts.called(Subject::Lists, answer, encode_agrees(case, list, expected));
+    let code = expected.ok()?;
+    let kind = case.kind?;
+    Some(compare_code(case, kind, list, &code, counts))
 }
 
-// The lists are over 0 to one above the greatest number that a plan has: a parent is a meter, another number at most the parameter.
-fn base(c: Case) -> usize {
-    let top = if c.ask.kind == 3 { c.meters } else { c.size };
-    std::num::wrapping_add_usize(top, 2)
+/// The lists are over 0 to one above the greatest number that a plan has: a parent is a meter, another number at most the parameter.
+fn base(case: &Case<'_>) -> usize {
+    let top = match case.kind {
+        Some(Kind::Channels(n) | Kind::Groups(n)) => n,
+        Some(Kind::Tree(_)) => case.site.meters(),
+        None => 0,
+    };
+    top.wrapping_add(2)
 }
 
-// All lists; gives the energies of the codes of those that are plans, all counted as below the penalty.
-pub fn compare_lists(
-    image: &[u8],
-    weights: &[u16; 2500],
-    c: Case,
-    counts: &mut [u64; 130],
-) -> Least {
-    let width = base(c);
-    let end = assignments::power(width, c.meters);
-    let mut list = [0u8; 8];
-    let mut least = assignments::none();
-    let mut k: usize = 0;
-    while k < end {
-        reference::list_number(k, c.meters, width, &mut list);
-        let energy = compare_list(image, weights, c, &list, counts);
-        least = assignments::with(least, energy, assignments::NONE);
-        k += 1;
+/// All lists; gives the energies of the codes of those that are plans, all counted as below the penalty.
+pub fn compare_lists(case: &Case<'_>, counts: &mut Counts) -> Least {
+    let base = base(case);
+    let meters = case.site.meters();
+    let mut list = [0; 8];
+    let mut least = Least::NONE;
+    for k in 0..assignments::power(base, meters) {
+        reference::list_number(k, base, front_mut(&mut list, meters));
+        if let Some(energy) = compare_list(case, &list, counts) {
+            least.add(energy, true);
+        }
     }
     least
 }

@@ -1,121 +1,173 @@
 // The cases of a site. One with few bits is compared at every assignment, a larger one at the codes of all plans, these with one bit flipped, and random assignments.
 use crate::assignments::Least;
-use crate::calls::Case;
-use crate::{assignments, calls, candidates, counts, rows};
-use plans::Ask;
+use crate::calls::Ask;
+use crate::counts::{Counts, Subject};
+use crate::edits::Twins;
+use crate::slices::front;
+use crate::{Run, asks, assignments, candidates, refusals, rows};
+use reference::{Kind, Site};
 
-// The refusal of image and ask, or 0: "18 margin too large, after 7". No small site has more than 8,192 bits, so 8 never applies; large.rt has those that have.
-fn refusal(valid: bool, allowed: bool, margin: u64) -> u64 {
-    if !valid {
-        return 1;
-    }
-    if !allowed {
-        return 7;
-    }
-    if reference::allows_margin(margin) {
-        0
-    } else {
-        18
-    }
+/// What is asked for one site, and what is lent to the calls.
+#[derive(Clone, Copy)]
+pub struct Case<'a> {
+    pub image: &'a [u8],
+    pub site: &'a Site,
+    pub ask: Ask,
+    /// the kind, where it is none that is refused
+    pub kind: Option<Kind>,
+    /// the bit count and the penalty, as the reference says
+    pub bits: usize,
+    pub penalty: u64,
+    /// whether image and ask are accepted, or the refusal's number
+    pub accepted: Result<(), u64>,
+    /// how many bits and how many bytes of a plan are lent
+    pub lent_bits: usize,
+    pub lent_plan: usize,
+    /// whether a bit has a value that no bit has
+    pub flawed: bool,
+    /// whether every assignment is compared
+    pub small: bool,
 }
 
-// The case of what is asked for, with what it needs lent; small where it has at most so many bits.
-pub fn case_of(weights: &[u16; 2500], meters: usize, ask: Ask, valid: bool, most: usize) -> Case {
-    let allowed = reference::allows(ask.kind, ask.parameter, meters);
-    let size = if allowed { ask.parameter as usize } else { 0 };
-    let bits = reference::bit_count(weights, meters, ask.kind, size);
-    Case {
-        meters,
-        ask,
-        size,
-        bits,
-        penalty: reference::penalty(weights, ask.kind, ask.margin),
-        refusal: refusal(valid, allowed, ask.margin),
-        lent_bits: bits,
-        lent_plan: meters,
-        flaw: 0,
-        small: bits <= most,
-    }
-}
-
-// Whether more than bit count, penalty and constant is compared: of small cases and, of three meters or more, of those with a parameter up to 4, of groups up to 5.
-fn is_chosen(c: Case) -> bool {
-    if c.refusal != 0 {
-        return false;
-    }
-    if c.small {
-        return true;
-    }
-    if c.meters < 3 {
-        return false;
-    }
-    if c.ask.kind == 2 {
-        return c.size <= 5;
-    }
-    c.size <= 4
-}
-
-// Whether the least energies are those of the best plans. `all` is of every assignment, `plans` of the codes of all plans.
-fn least_agrees(c: Case, all: Least, plans: Least) -> bool {
-    if plans.count == 0 {
-        return c.penalty <= all.energy;
-    }
-    if all.energy != plans.energy {
-        return false;
-    }
-    if all.count != plans.count {
-        return false;
-    }
-    if c.ask.kind == 1 {
-        true
-    } else {
-        all.below == plans.below
-    }
-}
-
-// Whether the least energy of the codes of trees is the weight of the best spanning tree, and there is a code just where there is such a tree.
-fn tree_agrees(weights: &[u16; 2500], c: Case, plans: Least) -> bool {
-    if c.ask.kind != 3 {
-        return true;
-    }
-    let best = reference::best_tree(weights, c.meters, c.size);
-    if best.found {
-        best.weight == plans.energy
-    } else {
-        plans.count == 0
-    }
-}
-
-// A case.
-pub fn compare_case(image: &[u8], weights: &[u16; 2500], c: Case, counts: &mut [u64; 130]) {
-    rows::compare_rows(image, weights, c, counts);
-    let plans = candidates::compare_lists(image, weights, c, counts);
-    counts::compared(counts, counts::LEAST, tree_agrees(weights, c, plans));
-    if c.small {
-        let all = assignments::compare_all(image, weights, c, counts);
-        counts::compared(counts, counts::LEAST, least_agrees(c, all, plans));
-    } else {
-        assignments::compare_some(image, weights, c, counts);
-    }
-}
-
-// All cases of a site: kinds 0 to 3, parameters 0 to 63, of which the refused ones have a number alone, each with a drawn margin that is accepted.
-pub fn compare_cases(
-    image: &[u8; 2064],
-    weights: &[u16; 2500],
-    meters: usize,
-    most: usize,
-    counts: &mut [u64; 130],
-) {
-    let mut k: u64 = 0;
-    while k < 256 {
-        let margin = calls::draw_margin(counts, calls::ACCEPTED_MARGINS);
-        let ask = calls::asks(k / 64, k % 64, margin);
-        let c = case_of(weights, meters, ask, true, most);
-        rows::compare_table(image, weights, c, counts);
-        if is_chosen(c) {
-            compare_case(image, weights, c, counts);
+impl<'a> Case<'a> {
+    /// The case of what is asked for, with what it needs lent; small where it has at most so many bits.
+    pub fn new(image: &'a [u8], site: &'a Site, ask: Ask, valid: bool, most: usize) -> Case<'a> {
+        let kind = Kind::new(ask.kind, ask.parameter, site.meters());
+        let bits = bits_of(site, ask, kind);
+        Case {
+            image,
+            site,
+            ask,
+            kind,
+            bits,
+            penalty: kind.map_or(0, |kind| site.penalty(kind, ask.margin)),
+            accepted: accepted(valid, kind, ask.margin),
+            lent_bits: bits,
+            lent_plan: site.meters(),
+            flawed: false,
+            small: bits <= most,
         }
-        k += 1;
+    }
+
+    /// The energy of an assignment, of as many bits as there are; 0 where the kind is refused.
+    pub fn energy_of(&self, bits: &[u8]) -> u64 {
+        let bits = front(bits, self.bits);
+        match self.kind {
+            Some(kind) => self.site.energy(kind, self.ask.margin, bits),
+            None => 0,
+        }
+    }
+
+    /// The bytes of a list that are those of the plan.
+    pub fn plan_in<'b>(&self, list: &'b [u8]) -> &'b [u8] {
+        front(list, self.site.meters())
+    }
+
+    /// What energies, codes and decoding answer: refused are image and ask, a length, and what is refused later.
+    pub fn answer(&self, lent_plan: usize, later: Result<(), u64>) -> Result<(), u64> {
+        self.accepted?;
+        if self.lent_bits != self.bits || lent_plan != self.site.meters() {
+            return Err(refusals::LENGTH);
+        }
+        later
+    }
+
+    /// Whether no bit has a value that no bit has.
+    pub fn unflawed(&self) -> Result<(), u64> {
+        if self.flawed {
+            Err(refusals::BIT_VALUE)
+        } else {
+            Ok(())
+        }
+    }
+
+    /// Whether more than bit count, penalty and constant is compared: of small cases and, of three meters or more, of those with a parameter up to 4, of groups up to 5.
+    fn is_chosen(&self) -> bool {
+        if self.accepted.is_err() {
+            return false;
+        }
+        if self.small {
+            return true;
+        }
+        let few = match self.kind {
+            Some(Kind::Groups(m)) => m <= 5,
+            Some(Kind::Channels(size) | Kind::Tree(size)) => size <= 4,
+            None => false,
+        };
+        few && self.site.meters() >= 3
+    }
+
+    /// Whether the least energies are those of the best plans. `all` is of every assignment, `plans` of the codes of all plans.
+    fn least_agrees(&self, all: Least, plans: Least) -> bool {
+        if plans.count == 0 {
+            return all.energy.is_none_or(|energy| self.penalty <= energy);
+        }
+        let channels = matches!(self.kind, Some(Kind::Channels(_)));
+        all.energy == plans.energy
+            && all.count == plans.count
+            && (channels || all.below == plans.below)
+    }
+
+    /// Whether the least energy of the codes of trees is the weight of the best spanning tree, and there is a code just where there is such a tree.
+    fn tree_agrees(&self, plans: Least) -> bool {
+        match self.kind {
+            Some(Kind::Tree(d)) => self.site.best_tree(d) == plans.energy,
+            _ => true,
+        }
+    }
+}
+
+/// How many bits there are. A kind that is refused has no bit count: the draws for it go by the bits that a tree has without those that count neighbours, or by none.
+fn bits_of(site: &Site, ask: Ask, kind: Option<Kind>) -> usize {
+    match kind {
+        Some(kind) => site.bit_count(kind),
+        None if ask.kind == 3 => site.bit_count(Kind::Tree(0)),
+        None => 0,
+    }
+}
+
+/// Whether image and ask are accepted: "18 margin too large, after 7". No small site has more than 8,192 bits, so 8 never applies; large.rt has those that have.
+fn accepted(valid: bool, kind: Option<Kind>, margin: u64) -> Result<(), u64> {
+    if !valid {
+        return Err(refusals::IMAGE);
+    }
+    if kind.is_none() {
+        return Err(refusals::KIND);
+    }
+    if !reference::allows_margin(margin) {
+        return Err(refusals::MARGIN);
+    }
+    Ok(())
+}
+
+/// A case.
+pub fn compare_case(case: &Case<'_>, run: &mut Run) {
+    rows::compare_rows(case, &mut run.counts);
+    let plans = candidates::compare_lists(case, &mut run.counts);
+    run.counts.compared(Subject::Least, case.tree_agrees(plans));
+    if case.small {
+        let all = assignments::compare_all(case, &mut run.counts);
+        run.counts
+            .compared(Subject::Least, case.least_agrees(all, plans));
+    } else {
+        assignments::compare_some(case, run);
+    }
+}
+
+/// All cases of a site: kinds 0 to 3, parameters 0 to 63, of which the refused ones have a number alone, each with a drawn margin that is accepted.
+pub fn compare_cases(twins: &Twins, most: usize, run: &mut Run) {
+    let site = twins.site();
+    for k in 0..256 {
+        let margin = asks::draw_accepted_margin(&mut run.draws);
+        let ask = Ask {
+            kind: k / 64,
+            parameter: k % 64,
+            margin,
+        };
+        let case = Case::new(&twins.image, &site, ask, true, most);
+        rows::compare_table(&case, &mut run.counts);
+        if case.is_chosen() {
+            compare_case(&case, run);
+        }
     }
 }

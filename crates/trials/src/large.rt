@@ -1,87 +1,91 @@
 // Two large sites, with 4,000 random edits each, whose draws begin with the same seed. Every hundred edits the bit counts of all kinds are compared too: no small site has more than 8,192 bits, and large ones have more or less.
-use crate::edits::Edit;
-use crate::{calls, counts, edits, matrix};
-use plans::Ask;
+use crate::calls::{self, Ask};
+use crate::counts::{Counts, Subject};
+use crate::draws::Draws;
+use crate::edits::{Edit, Twins};
+use crate::{Run, asks, refusals};
+use reference::Kind;
 
-// How many edits are made of each site.
+/// How many edits are made of each site.
 const EDITS: usize = 4000;
 
 const MOST_BITS: usize = 8192;
 
-// One of 64 edits begins, with one of the 13 numbers of meters from `least` on, 23 remove and 40 add. The ends are 0 to one above the meters. Weight 0 stands in for every weight that 16 divides.
-fn draw_large(counts: &mut [u64; 130], meters: usize, least: usize) -> Edit {
-    let ends = std::num::wrapping_add_usize(meters, 2);
-    let way = counts::below(counts, 64);
-    let u = counts::below(counts, ends);
-    let v = counts::below(counts, ends);
-    let any = counts::below(counts, 65536) % 65536;
-    let more = counts::below(counts, 13);
-    let link = if way < 24 { edits::REMOVE } else { edits::ADD };
-    Edit {
-        what: if way == 0 { edits::BEGIN } else { link },
-        meters: std::num::wrapping_add_usize(least, more),
-        u,
-        v,
-        weight: if any % 16 == 0 { 0 } else { any as u16 },
+/// One of 64 edits begins, with one of the 13 numbers of meters from `least` on, 23 remove and 40 add. The ends are 0 to one above the meters. Weight 0 stands in for every weight that 16 divides.
+fn draw_large(draws: &mut Draws, meters: usize, least: usize) -> Edit {
+    let ends = meters.wrapping_add(2);
+    let way = draws.below(64);
+    let u = draws.below(ends);
+    let v = draws.below(ends);
+    let any = draws.below(65536) as u16;
+    let more = draws.below(13);
+    match way {
+        0 => Edit::Begin {
+            meters: least.wrapping_add(more),
+        },
+        1..24 => Edit::Remove { u, v },
+        _ => Edit::Add {
+            u,
+            v,
+            weight: if any % 16 == 0 { 0 } else { any },
+        },
     }
 }
 
-// The refusal of an ask, or 0.
-fn refusal(allowed: bool, margin: u64, bits: usize) -> u64 {
-    if !allowed {
-        return 7;
+/// The bit count of what is asked for, or its refusal.
+fn bit_count(meters: usize, links: usize, ask: Ask) -> Result<usize, u64> {
+    let kind = Kind::new(ask.kind, ask.parameter, meters).ok_or(refusals::KIND)?;
+    if !reference::allows_margin(ask.margin) {
+        return Err(refusals::MARGIN);
     }
-    if !reference::allows_margin(margin) {
-        return 18;
+    let bits = kind.bits_of(meters, links);
+    if bits <= MOST_BITS {
+        Ok(bits)
+    } else {
+        Err(refusals::BITS)
     }
-    if MOST_BITS < bits { 8 } else { 0 }
 }
 
-// The bit count of what is asked for, or its refusal.
-fn compare_count(image: &[u8; 2064], meters: usize, links: u64, ask: Ask, counts: &mut [u64; 130]) {
-    let bits = reference::bits_of(meters, links, ask.kind, ask.parameter as usize);
-    let allowed = reference::allows(ask.kind, ask.parameter, meters);
-    let number = refusal(allowed, ask.margin, bits);
-    let answer = plans::bit_count(image, ask);
-    counts::called(
-        counts,
-        counts::TABLES,
-        number,
-        calls::is_value(answer, number, bits as u64),
+/// Compares one bit count.
+fn compare_count(twins: &Twins, links: usize, ask: Ask, counts: &mut Counts) {
+    let expected = bit_count(twins.matrix.meters(), links, ask);
+    let given = calls::bit_count(&twins.image, ask);
+    counts.called(
+        Subject::Tables,
+        expected.map(|_| ()),
+        given == expected.map(|bits| (bits as u64).cast_signed()),
     );
 }
 
-// Those of kinds 0 to 3 with parameters 0 to 63, each with a drawn margin.
-fn compare_counts(image: &[u8; 2064], meters: usize, links: u64, counts: &mut [u64; 130]) {
-    let mut k: u64 = 0;
-    while k < 256 {
-        let margin = calls::draw_margin(counts, calls::ALL_MARGINS);
-        let ask = calls::asks(k / 64, k % 64, margin);
-        compare_count(image, meters, links, ask, counts);
-        k += 1;
+/// Those of kinds 0 to 3 with parameters 0 to 63, each with a drawn margin.
+fn compare_counts(twins: &Twins, run: &mut Run) {
+    let links = twins.matrix.count();
+    for k in 0..256 {
+        let margin = asks::draw_margin(&mut run.draws);
+        let ask = Ask {
+            kind: k / 64,
+            parameter: k % 64,
+            margin,
+        };
+        compare_count(twins, links, ask, &mut run.counts);
     }
 }
 
-// One site, begun with the meters given and later with `least` or more.
-fn compare_site(start: usize, least: usize, counts: &mut [u64; 130]) {
-    let mut image = [0u8; 2064];
-    let mut weights = [0u16; 2500];
-    edits::begin(&mut image, start, counts);
-    counts[129] = 1;
-    let mut meters = start;
-    let mut k: usize = 0;
-    while k < EDITS {
-        let e = draw_large(counts, meters, least);
-        meters = edits::edit_both(&mut image, &mut weights, meters, e, counts);
+/// One site, begun with the meters given and later with `least` or more.
+fn compare_site(start: usize, least: usize, run: &mut Run) {
+    let mut twins = Twins::begin(start, &mut run.counts);
+    run.draws = Draws::new(1);
+    for k in 0..EDITS {
+        let edit = draw_large(&mut run.draws, twins.matrix.meters(), least);
+        twins.edit(edit, &mut run.counts);
         if k % 100 == 0 {
-            compare_counts(&image, meters, matrix::count(&weights) as u64, counts);
+            compare_counts(&twins, run);
         }
-        k += 1;
     }
 }
 
-// A site where many adds meet a link that is there, and one of 48 meters, which fills up.
-pub fn compare_all(counts: &mut [u64; 130]) {
-    compare_site(12, 0, counts);
-    compare_site(48, 48, counts);
+/// A site where many adds meet a link that is there, and one of 48 meters, which fills up.
+pub fn compare_all(run: &mut Run) {
+    compare_site(12, 0, run);
+    compare_site(48, 48, run);
 }

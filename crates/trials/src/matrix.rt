@@ -1,104 +1,119 @@
-// A second implementation of a site, which shares nothing with `site`: the weights in a plain matrix, 0 where there is no link. The link of u and v with u < v stands at row u and column v, of 50
-// each, so that the first ends above 48 have a place too.
-ghost use Rattle.std.specs.Prelude.{◌<◌};
+// A second implementation of a site, which shares nothing with `site`: the weights in a plain matrix, 0 where there is no link.
+ghost use Rattle.std.specs.Prelude.{◌<◌, ◌≤◌, IfSome};
 
-// Where the link of u and v stands, either way round.
-fn place(u: usize, v: usize) -> usize
-    ensures { result < 2500 }
-{
-    if u < v {
-        50 * (u % 50) + v % 50
-    } else {
-        50 * (v % 50) + u % 50
-    }
+use crate::calls::Link;
+use crate::edits::Edit;
+use crate::refusals;
+use reference::{Site, Weights};
+
+/// The most meters, and the most links.
+const METERS: usize = 48;
+
+const LINKS: usize = 256;
+
+/// The meters, and the weights, that of the link of u < v at row u and column v.
+#[derive(Drop)]
+pub struct Matrix {
+    meters: usize,
+    weights: Weights,
+    ghost few: { meters ≤ 48 },
 }
 
-// Puts the link in, or takes it out with weight 0.
-pub fn store(weights: &mut [u16; 2500], u: usize, v: usize, weight: u16) {
-    let at = place(u, v);
-    weights[at] = weight;
-}
-
-// How many links there are.
-pub fn count(weights: &[u16; 2500]) -> usize {
-    let mut n: usize = 0;
-    let mut i: usize = 0;
-    while i < 2500 {
-        if weights[i] != 0 {
-            n += 1;
+impl Matrix {
+    /// No links, and so many meters, of which there are at most 48.
+    pub fn new(meters: usize) -> Matrix {
+        Matrix {
+            meters: meters.min(METERS),
+            weights: [[0; 50]; 50],
         }
-        i += 1;
     }
-    n
-}
 
-// Whether u and v are ends of no link in a site of that many meters.
-fn bad_ends(meters: usize, u: usize, v: usize) -> bool {
-    if u == v {
-        return true;
+    /// How many meters there are.
+    pub fn meters(&self) -> usize {
+        self.meters
     }
-    if u < v {
-        return u < 1 || meters < v;
-    }
-    v < 1 || meters < u
-}
 
-// What add is to return.
-pub fn add_number(weights: &[u16; 2500], meters: usize, u: usize, v: usize, weight: u16) -> u64 {
-    if bad_ends(meters, u, v) {
-        return 2;
+    /// How many links there are.
+    pub fn count(&self) -> usize {
+        self.weights
+            .iter()
+            .map(|row| row.iter().filter(|weight| **weight != 0).count())
+            .fold(0, usize::wrapping_add)
     }
-    if weight == 0 {
-        return 3;
-    }
-    let at = place(u, v);
-    if weights[at] != 0 {
-        return 4;
-    }
-    if count(weights) < 256 { 0 } else { 6 }
-}
 
-// What remove is to return.
-pub fn remove_number(weights: &[u16; 2500], meters: usize, u: usize, v: usize) -> u64 {
-    if bad_ends(meters, u, v) {
-        return 2;
+    /// The small site with these links.
+    pub fn site(&self) -> Site {
+        Site::new(self.meters, &self.weights)
     }
-    let at = place(u, v);
-    if weights[at] != 0 { 0 } else { 5 }
-}
 
-// Whether a link that was read is the one that stands at place i, of that weight.
-fn same_link(u: u8, v: u8, w: u16, i: usize, weight: u16) -> bool {
-    if u as usize != i / 50 {
-        return false;
-    }
-    if v as usize != i % 50 {
-        return false;
-    }
-    w == weight
-}
-
-// Whether the arrays have the links of the matrix, row by row, and `links` is their number.
-pub fn same_links(
-    weights: &[u16; 2500],
-    us: &[u8; 256],
-    vs: &[u8; 256],
-    ws: &[u16; 256],
-    links: usize,
-) -> bool {
-    let mut k: usize = 0;
-    let mut i: usize = 0;
-    while i < 2500 {
-        if weights[i] != 0 {
-            if 256 <= k {
-                return false;
-            }
-            if !same_link(us[k], vs[k], ws[k], i, weights[i]) {
-                return false;
-            }
-            k += 1;
+    /// The ends u and v of a link in their order; `None` where they are ends of none in a site of that many meters.
+    fn ends(&self, u: usize, v: usize) -> Option<(usize, usize)>
+        ensures { IfSome result (λ ends. (ends.0 < 50) × (ends.1 < 50)) }
+    {
+        let least = u.min(v);
+        let greatest = u.max(v);
+        if 1 <= least && least < greatest && greatest <= self.meters {
+            Some((least, greatest))
+        } else {
+            None
         }
-        i += 1;
     }
-    k == links
+
+    /// Begins anew, with no links.
+    fn begin(&mut self, meters: usize) -> Result<(), u64> {
+        if meters < 1 || METERS < meters {
+            return Err(refusals::KIND);
+        }
+        *self = Matrix::new(meters);
+        Ok(())
+    }
+
+    /// Takes the link of u and v out.
+    fn remove(&mut self, u: usize, v: usize) -> Result<(), u64> {
+        let (u, v) = self.ends(u, v).ok_or(refusals::ENDS)?;
+        if self.weights[u][v] == 0 {
+            return Err(refusals::ABSENT);
+        }
+        self.weights[u][v] = 0;
+        Ok(())
+    }
+
+    /// Puts the link of u and v in.
+    fn add(&mut self, u: usize, v: usize, weight: u16) -> Result<(), u64> {
+        let (u, v) = self.ends(u, v).ok_or(refusals::ENDS)?;
+        if weight == 0 {
+            return Err(refusals::WEIGHT);
+        }
+        if self.weights[u][v] != 0 {
+            return Err(refusals::PRESENT);
+        }
+        if self.count() >= LINKS {
+            return Err(refusals::FULL);
+        }
+        self.weights[u][v] = weight;
+        Ok(())
+    }
+
+    /// Makes an edit, or gives the number with which it is to be refused.
+    pub fn edit(&mut self, edit: Edit) -> Result<(), u64> {
+        match edit {
+            Edit::Begin { meters } => self.begin(meters),
+            Edit::Remove { u, v } => self.remove(u, v),
+            Edit::Add { u, v, weight } => self.add(u, v, weight),
+        }
+    }
+
+    /// Whether these are the links, row by row.
+    pub fn has_links(&self, links: &[Link]) -> bool {
+        let mut rest = links.iter();
+        for (u, row) in self.weights.iter().enumerate() {
+            for (v, weight) in row.iter().enumerate() {
+                let weight = *weight;
+                if weight != 0 && rest.next() != Some(&Link { u, v, weight }) {
+                    return false;
+                }
+            }
+        }
+        rest.next().is_none()
+    }
 }

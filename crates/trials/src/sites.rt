@@ -1,65 +1,56 @@
 // The small sites: as many each of 1 to 5 meters, made by random edits.
-use crate::edits::Edit;
-use crate::{asks, cases, counts, edits};
+use crate::draws::Draws;
+use crate::edits::{Edit, Twins};
+use crate::{Run, asks, cases};
 
-// How many sites there are, and how many edits are made of each.
+/// How many sites there are, and how many edits are made of each.
 const SITES: usize = 60;
 
 const EDITS: usize = 20;
 
-// Any 16 bits in one of 8 draws, else 0 to 9.
-fn draw_weight(counts: &mut [u64; 130]) -> u16 {
-    let way = counts::below(counts, 8);
-    let any = counts::below(counts, 65536);
-    if way == 0 {
-        return (any % 65536) as u16;
-    }
-    (any % 10) as u16
+/// Any 16 bits in one of 8 draws, else 0 to 9.
+fn draw_weight(draws: &mut Draws) -> u16 {
+    let way = draws.below(8);
+    let any = draws.below(65536);
+    let weight = if way == 0 { any } else { any % 10 };
+    weight as u16
 }
 
-// One of 4 edits removes, the others add; the ends are 0 to one above the meters.
-fn draw_edit(counts: &mut [u64; 130], meters: usize) -> Edit {
-    let ends = std::num::wrapping_add_usize(meters, 2);
-    let way = counts::below(counts, 4);
-    let u = counts::below(counts, ends);
-    let v = counts::below(counts, ends);
-    let weight = draw_weight(counts);
-    Edit {
-        what: if way == 0 { edits::REMOVE } else { edits::ADD },
-        meters,
-        u,
-        v,
-        weight,
+/// One of 4 edits removes, the others add; the ends are 0 to one above the meters.
+fn draw_edit(draws: &mut Draws, meters: usize) -> Edit {
+    let ends = meters.wrapping_add(2);
+    let way = draws.below(4);
+    let u = draws.below(ends);
+    let v = draws.below(ends);
+    let weight = draw_weight(draws);
+    match way {
+        0 => Edit::Remove { u, v },
+        _ => Edit::Add { u, v, weight },
     }
 }
 
-// Makes a site, of the image and of the matrix.
-fn make(image: &mut [u8; 2064], weights: &mut [u16; 2500], meters: usize, counts: &mut [u64; 130]) {
-    edits::begin(image, meters, counts);
-    let mut k: usize = 0;
-    while k < EDITS {
-        let e = draw_edit(counts, meters);
-        edits::edit_both(image, weights, meters, e, counts);
-        k += 1;
+/// Makes a site.
+fn make(meters: usize, run: &mut Run) -> Twins {
+    let mut twins = Twins::begin(meters, &mut run.counts);
+    for _ in 0..EDITS {
+        let edit = draw_edit(&mut run.draws, meters);
+        twins.edit(edit, &mut run.counts);
     }
+    twins
 }
 
-// One site, from its number. The most bits for every assignment: the first site of each number of meters has more than the others.
-fn compare_site(s: usize, counts: &mut [u64; 130]) {
+/// One site, from its number. The most bits for every assignment: the first site of each number of meters has more than the others.
+fn compare_site(s: usize, run: &mut Run) {
     let meters = s % 5 + 1;
     let most = if s < 5 { 16 } else { 12 };
-    let mut image = [0u8; 2064];
-    let mut weights = [0u16; 2500];
-    make(&mut image, &mut weights, meters, counts);
-    cases::compare_cases(&image, &weights, meters, most, counts);
-    asks::compare_asks(&image, &weights, meters, counts);
+    let twins = make(meters, run);
+    cases::compare_cases(&twins, most, run);
+    asks::compare_asks(&twins, run);
 }
 
-// All sites.
-pub fn compare_all(counts: &mut [u64; 130]) {
-    let mut s: usize = 0;
-    while s < SITES {
-        compare_site(s, counts);
-        s += 1;
+/// All sites.
+pub fn compare_all(run: &mut Run) {
+    for s in 0..SITES {
+        compare_site(s, run);
     }
 }

@@ -1,7 +1,0 @@
-use Rattle.reference.proofs.choices.in_range.Goals as goal
-
-pub loop-v-init : goal.loop-v-init
-loop-v-init c = tt
-
-pub loop-v-preserved : goal.loop-v-preserved
-loop-v-preserved c = tt

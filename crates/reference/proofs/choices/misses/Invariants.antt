@@ -1,8 +1,0 @@
-use Rattle.std.proofs.Common.{◌-◌}
-use Rattle.reference.proofs.choices.misses.Given as goal
-
-abbrev pub invariant-loop-v : goal.invariant-loop-v
-invariant-loop-v l = Unit {0}
-
-abbrev pub decreases-loop-v : goal.decreases-loop-v
-decreases-loop-v l = l.meters - l.v

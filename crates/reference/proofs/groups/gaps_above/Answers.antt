@@ -1,7 +1,0 @@
-use Rattle.reference.proofs.groups.gaps_above.Goals as goal
-
-pub loop-j-init : goal.loop-j-init
-loop-j-init c = tt
-
-pub loop-j-preserved : goal.loop-j-preserved
-loop-j-preserved c = tt

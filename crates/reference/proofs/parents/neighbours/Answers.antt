@@ -1,7 +1,0 @@
-use Rattle.reference.proofs.parents.neighbours.Goals as goal
-
-pub loop-u-init : goal.loop-u-init
-loop-u-init c = tt
-
-pub loop-u-preserved : goal.loop-u-preserved
-loop-u-preserved c = tt

@@ -1,8 +1,0 @@
-use Rattle.std.proofs.Common.{◌-◌}
-use Rattle.reference.proofs.sites.links_at.Given as goal
-
-abbrev pub invariant-loop-u : goal.invariant-loop-u
-invariant-loop-u l = Unit {0}
-
-abbrev pub decreases-loop-u : goal.decreases-loop-u
-decreases-loop-u l = 8 - l.u
