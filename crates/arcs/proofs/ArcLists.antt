@@ -1,5 +1,5 @@
--- The arcs of a list of links: two for each link, with the link's ends and weight, and each with a number of its own; what a loop over links in three arrays has left. Assumes nothing.
-use Prim.Native.Nat.{ℕ, zero, suc, ◌+◌, ◌-◌, ◌*◌, ◌≤◌, ◌<◌}
+-- The arcs of a list of links: two for each link, with the link's ends and weight, and each with a number of its own; what a loop over the links has left. Assumes nothing.
+use Prim.Native.Nat.{ℕ, zero, suc, ◌+◌, ◌*◌, ◌≤◌, ◌<◌}
 use mathlib.Core.Path.{◌≡◌, refl, sym, ap, ap₂, ◌∙◌}
 use mathlib.Core.Bool.{true}
 use mathlib.Core.List.Memᴰ
@@ -7,20 +7,21 @@ use mathlib.Core.List.{List, [], ◌∷◌, Memᴰ}
 use mathlib.Core.Logic.{⊎_elim}
 use native.Mathlib.Omega.{arith}
 use native.Mathlib.Numerals.{add-one}
-use native.Mathlib.Nat.{sub-zero}
-use lib.ListN.{length, get_or}
+use lib.ListN.{length, drop, drop_of_length-le}
+use lib.Seq.{drop-cons}
 use lib.IntN.{ℤ, pos, ◌+ℤ◌, +ℤ_idl, +ℤ_idr}
 use Rattle.lists.specs.Sums.{sum_of}
 use Rattle.lists.specs.Tests.{all}
 use Rattle.lists.proofs.Tests.{all_head, all_tail}
-use Rattle.links.specs.Links.{Link, link_ok, link_in, links_from, links_of}
-use Rattle.links.specs.Survey.{LinkOf, Survey}
+use Rattle.links.specs.Links.{link_ok, nothing, link_in}
+use Rattle.links.specs.declared.Link.{Link}
+use Rattle.links.specs.Survey.{LinkOf, IsSurvey}
 use Rattle.links.proofs.Altered.{link_of}
 use Rattle.qubo.proofs.Families.{sum_over}
 use Rattle.arcs.specs.Arcs.{Arc, arcs_from, arcs}
-use Rattle.arcs.specs.Inner.{WithDepths, WithPlace, weight_in}
-use Rattle.arcs.specs.declared.layout.Place.{Place}
-use Rattle.arcs.specs.declared.layout.Place.TheVariants.{OfDepth, OfArc, Behind}
+use Rattle.arcs.specs.Inner.{IsPlace, weight_in}
+use Rattle.arcs.specs.declared.place.Place.{Place}
+use Rattle.arcs.specs.declared.place.Place.TheVariants.{OfDepth, OfArc, Behind}
 
 -- the arc of a link from u to v, and the one back, with their numbers
 abbrev pub there : ℕ → Link → Arc
@@ -97,19 +98,15 @@ of_from N k (l ∷ ls) o a m =
     (Memᴰ.cases_cons m)
 
 -- each arc of a survey's links is one
-pub arc_of : (N : ℕ) (ls : List Link) → Survey N ls → (a : Arc) → Memᴰ a (arcs ls) → ArcOf N a
+pub arc_of : (N : ℕ) (ls : List Link) → IsSurvey N ls → (a : Arc) → Memᴰ a (arcs ls) → ArcOf N a
 unfolding arcs
 arc_of N ls s = of_from N 0 ls s.each
 
--- so is each of an accepted site's links
-pub lent_arc : (N D : ℕ) (us vs ws : List ℕ) → WithDepths N D us vs ws → (a : Arc) → Memᴰ a (arcs (links_of us vs ws)) → ArcOf N a
-lent_arc N D us vs ws lent = arc_of N (links_of us vs ws) lent.arrays.survey
-
 -- and the weight at the place of a bit is one of theirs, or 0
-pub weight_few : (N D : ℕ) (us vs : List ℕ) (i : ℕ) (q : Place) → WithPlace N D us vs i q → weight_in q ≤ 65535
-weight_few N D us vs i (OfDepth v t) w = omega arith
-weight_few N D us vs i (OfArc k u v x t) w = (lent_arc N D us vs w.weights w.lent _ w.place.among).weight_high
-weight_few N D us vs i Behind w = omega arith
+pub weight_few : (N D : ℕ) (ls : List Link) (i : ℕ) (q : Place) → IsSurvey N ls → IsPlace N D ls i q → weight_in q ≤ 65535
+weight_few N D ls i (OfDepth v t) s p = omega arith
+weight_few N D ls i (OfArc k u v x t) s p = (arc_of N ls s _ p.among).weight_high
+weight_few N D ls i Behind s p = omega arith
 
 -- ---- sums over the arcs in which at most one has a part
 
@@ -136,52 +133,49 @@ sum_over_arc f a k (l ∷ ls) m h =
     rest : a.number < suc (suc k) → sum_over (arcs_from (suc (suc k)) ls) f ≡ pos 0
     rest g = sum_over_none (arcs_from (suc (suc k)) ls) f (λ b q. h b (Memᴰ.tail (Memᴰ.tail q)) (λ d. omega (arith, arcs_low (suc (suc k)) ls b q)))
 
--- ---- links in three arrays
+-- ---- link by link
 
-module _ (us vs ws : List ℕ) (k : ℕ) where
+module _ (ls : List Link) (k : ℕ) where
   -- the arcs of the link at index k: from its lower end to its higher one
   abbrev pub arc_up : Arc
-  arc_up = record { number = 2 * k; parent = get_or us k 0; child = get_or vs k 0; weight = get_or ws k 0 }
+  arc_up = there (2 * k) (link_in ls k)
 
   -- and back
   abbrev pub arc_back : Arc
-  arc_back = record { number = 2 * k + 1; parent = get_or vs k 0; child = get_or us k 0; weight = get_or ws k 0 }
+  arc_back = back (2 * k + 1) (link_in ls k)
 
   -- those of the links from index k on
   pub arcs_left : List Arc
-  arcs_left = arcs_from (2 * k) (links_from us vs ws k (length us - k))
+  arcs_left = arcs_from (2 * k) (drop k ls)
 
-module _ (us vs ws : List ℕ) where
+module _ (ls : List Link) where
   -- at first all are left
-  pub arcs_start : arcs_left us vs ws 0 ≡ arcs (links_of us vs ws)
-  unfolding arcs_left arcs links_of
-  arcs_start = rw (sub-zero (length us)) refl
+  pub arcs_start : arcs_left ls 0 ≡ arcs ls
+  unfolding arcs_left arcs
+  arcs_start = refl
 
   -- a turn takes off the two of the link at k
-  pub arcs_turn : (k : ℕ) → k < length us → arcs_left us vs ws k ≡ arc_up us vs ws k ∷ arc_back us vs ws k ∷ arcs_left us vs ws (k + 1)
-  unfolding arcs_left arcs_from links_from link_in
-  arcs_turn k h = ap (λ (t : ℕ). arcs_from (2 * k) (links_from us vs ws k t)) e ∙ rw (add-one (2 * k), add-one k, ← d) refl
+  pub arcs_turn : (k : ℕ) → k < length ls → arcs_left ls k ≡ arc_up ls k ∷ arc_back ls k ∷ arcs_left ls (k + 1)
+  unfolding arcs_left arcs_from
+  arcs_turn k h = ap (arcs_from (2 * k)) (drop-cons ls k nothing h) ∙ rw (add-one (2 * k), add-one k, ← d) refl
     where
-      e : length us - k ≡ suc (length us - suc k)
-      e = omega arith
-
       d : suc (suc (2 * k)) ≡ 2 * suc k
       d = omega arith
 
   -- in the end none is left
-  pub arcs_end_fact : (k : ℕ) → length us ≤ k → arcs_left us vs ws k ≡ []
-  unfolding arcs_left arcs_from links_from
-  arcs_end_fact k h = let e : length us - k ≡ 0 = omega arith in ap (λ (t : ℕ). arcs_from (2 * k) (links_from us vs ws k t)) e
+  pub arcs_end_fact : (k : ℕ) → length ls ≤ k → arcs_left ls k ≡ []
+  unfolding arcs_left arcs_from
+  arcs_end_fact k h = ap (arcs_from (2 * k)) (drop_of_length-le ls h)
 
   -- those left are among all
-  left_among : (k : ℕ) → k ≤ length us → (a : Arc) → Memᴰ a (arcs_left us vs ws k) → Memᴰ a (arcs (links_of us vs ws))
+  left_among : (k : ℕ) → k ≤ length ls → (a : Arc) → Memᴰ a (arcs_left ls k) → Memᴰ a (arcs ls)
   left_among zero h a m = rw arcs_start at m
   left_among (suc k) h a m = left_among k (omega arith) a (rw (arcs_turn k h, add-one k) (Memᴰ.tail (Memᴰ.tail m)))
 
   -- so are the two of the link at k: the even number is that up
-  pub up_among : (k m : ℕ) → k < length us → m ≡ 2 * k → Memᴰ (record { number = m; parent = get_or us k 0; child = get_or vs k 0; weight = get_or ws k 0 }) (arcs (links_of us vs ws))
-  up_among k m h e = rw e (left_among k (omega arith) (arc_up us vs ws k) (rw (arcs_turn k h) (Memᴰ.head refl)))
+  pub up_among : (k m : ℕ) → k < length ls → m ≡ 2 * k → Memᴰ (there m (link_in ls k)) (arcs ls)
+  up_among k m h e = rw e (left_among k (omega arith) (arc_up ls k) (rw (arcs_turn k h) (Memᴰ.head refl)))
 
   -- the odd one that back
-  pub back_among : (k m : ℕ) → k < length us → m ≡ 2 * k + 1 → Memᴰ (record { number = m; parent = get_or vs k 0; child = get_or us k 0; weight = get_or ws k 0 }) (arcs (links_of us vs ws))
-  back_among k m h e = rw e (left_among k (omega arith) (arc_back us vs ws k) (rw (arcs_turn k h) (Memᴰ.tail (Memᴰ.head refl))))
+  pub back_among : (k m : ℕ) → k < length ls → m ≡ 2 * k + 1 → Memᴰ (back m (link_in ls k)) (arcs ls)
+  back_among k m h e = rw e (left_among k (omega arith) (arc_back ls k) (rw (arcs_turn k h) (Memᴰ.tail (Memᴰ.head refl))))

@@ -1,12 +1,11 @@
 -- What the terms of depths add to row i: "(1 - number of depth-0 bits)²" over the run of those bits, and "(1 - its depth bits)²" of the meter of bit i. Assumes nothing.
 use Prim.Native.Nat.{ℕ, suc, pred, ◌+◌, ◌*◌, ◌^◌, ◌≤◌}
-use mathlib.Core.Path.{◌≡◌, sym, ap, ◌∙◌, fun_ext}
+use mathlib.Core.Path.{◌≡◌, sym, ◌∙◌}
 use mathlib.Core.List.{List, [], ◌∷◌}
 use native.Mathlib.Omega.{arith}
 use native.Mathlib.Nat.{mul-le-mul}
 use lib.ListN.{length}
 use lib.IntN.{ℤ, pos, negsuc}
-use Rattle.qubo.specs.Formula.{Term}
 use Rattle.qubo.specs.Table.{only}
 use Rattle.qubo.specs.Terms.{one_hot, one_less}
 use Rattle.qubo.specs.Rows.{add_terms, run_one_hot, RunBelow, Room}
@@ -20,7 +19,7 @@ use Rattle.qubo.proofs.Runs.{run_below}
 use Rattle.onehot.specs.Choices.{one_hots}
 use Rattle.onehot.proofs.Penalty.{one_hots_norm}
 use Rattle.arcs.specs.Arcs.{depth_bit, depths_end}
-use Rattle.arcs.specs.Formula.{root_term, depth_terms}
+use Rattle.arcs.specs.Formula.{depth_terms}
 use Rattle.arcs.specs.Inner.{Row}
 use Rattle.arcs.proofs.BitsApart.{depth_below}
 use Rattle.arcs.proofs.RowRoom.{room_for}
@@ -38,12 +37,6 @@ module _ (N D A i : ℕ) (r : List ℤ) (meters : N ≤ 48) (deep : D ≤ 24) (w
 
   abbrev roots : Run
   roots = record { start = 0; step = suc D; count = N }
-
-  root_is : run_one_hot (pos A) roots ≡ root_term A N D
-  root_is = ap (one_hot (pos A) N) (fun_ext (λ v. omega arith))
-
-  pub root_row : (s : List ℤ) → s ≡ add_terms (run_one_hot (pos A) roots ∷ []) i r → s ≡ add_terms (root_term A N D ∷ []) i r
-  root_row s e = e ∙ ap (λ (t : Term). add_terms (t ∷ []) i r) root_is
 
   pub root_below : RunBelow roots (i + length r)
   root_below = run_below roots (i + length r) (omega arith) (omega (arith, depths_inside)) (omega (arith, w.short))

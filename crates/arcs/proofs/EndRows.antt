@@ -7,18 +7,22 @@ use native.Mathlib.Decide.{ℕ_discrete, dec_le}
 use borrow.Author.Tests.{eq-eqb, ne_eqb}
 use lib.ListN.{length}
 use lib.IntN.{ℤ, pos, negsuc, ◌-ℤ◌, ◌*ℤ◌}
-use Rattle.links.specs.Links.{Link, links_of}
-use Rattle.qubo.specs.Formula.{Term, Formula, product}
+use Rattle.links.specs.Survey.{IsSurvey}
+use Rattle.links.specs.declared.Link.{Link}
+use Rattle.qubo.specs.Formula.{Formula, product}
 use Rattle.qubo.specs.Terms.{each_of, each, over, bit, single, pair}
 use Rattle.qubo.specs.Rows.{add_terms}
 use Rattle.qubo.proofs.Ring.{var, con, ◌⊖◌, ◌⊗◌, solve}
 use Rattle.qubo.proofs.RowAction.{add_none, add_append, Absent, add_absent, absent_each_of, add_only, each_nothing}
 use Rattle.qubo.proofs.RowTerms.{single_absent, pair_absent, pair_nothing, product_swap, product_split, product_entry, product_constant}
-use Rattle.arcs.specs.Arcs.{Arc, arcs, depth_bit, depths_end, arc_bit, arcs_end}
+use Rattle.arcs.specs.Arcs.{Arc, arcs, depth_bit, arc_bit, arcs_end}
 use Rattle.arcs.specs.Formula.{ends_missing, end_terms, weight_terms}
-use Rattle.arcs.specs.Inner.{WithDepths, IsDepth, IsArc, pair_at, pairs_into, pairs_within, arcs_between}
-use Rattle.arcs.proofs.ArcLists.{arc_high, ArcOf, lent_arc}
-use Rattle.arcs.proofs.ArcWalk.{by_ends, by_parent, within_yes, within_zero, within_deep, within_none}
+use Rattle.arcs.specs.Inner.{IsDepth, IsArc, IsPlace, pair_at, pairs_at, pairs_within}
+use Rattle.arcs.specs.declared.place.Place.{Place}
+use Rattle.arcs.specs.declared.place.Place.TheVariants.{OfDepth, OfArc, Behind}
+use Rattle.arcs.specs.declared.rows.End.TheVariants.{Parent, Child}
+use Rattle.arcs.proofs.ArcLists.{arc_high, ArcOf, arc_of}
+use Rattle.arcs.proofs.ArcWalk.{within_yes, within_zero, within_deep, within_none}
 use Rattle.arcs.proofs.Alike.{Alike, alike_append, alike_over, alike_each, over_nothing, over_split, each_split, arc_only}
 use Rattle.arcs.proofs.BitsApart.{depth_below, depth_meter, depth_depth, arc_above, arc_below, arc_number, arc_depth_fact}
 
@@ -152,21 +156,19 @@ module _ (N D : ℕ) (ls : List Link) (i : ℕ) (r : List ℤ) where
   unfolding weight_terms
   depth_weight_row v t is = sym (depth_singles (λ b. pos b.weight) N D (arcs ls) i v t is r)
 
+  pub other_weight_row : (q : Place) → ((k u v w t : ℕ) → q ≡ OfArc k u v w t → ⊥) → IsPlace N D ls i q → r ≡ add_terms (weight_terms N D (arcs ls)) i r
+  other_weight_row (OfDepth v t) h is = depth_weight_row v t is
+  other_weight_row (OfArc k u v w t) h is = absurd (h k u v w t refl)
+  other_weight_row Behind h is = behind_weight_row is
+
 -- ---- add_ends, by the place of bit i
 
-module _ (A N D : ℕ) (us vs ws : List ℕ) (lent : WithDepths N D us vs ws) where
+module _ (A N D : ℕ) (ls : List Link) (survey : IsSurvey N ls) where
   abbrev ks : List Arc
-  ks = arcs (links_of us vs ws)
+  ks = arcs ls
 
-  ends_of : (a : Arc) → Memᴰ a (arcs (links_of us vs ws)) → ArcOf N a
-  ends_of = lent_arc N D us vs ws lent
-
-  -- the weights of the links have no part in these terms: what is added with some is added with any
-  pub ends_any : (i : ℕ) (r s : List ℤ) → s ≡ add_terms (end_terms A N D (arcs (links_of us vs ws))) i r → (xs : List ℕ) → s ≡ add_terms (end_terms A N D (arcs (links_of us vs xs))) i r
-  unfolding end_terms
-  ends_any i r s e xs =
-      let term : ℕ → ℕ → ℕ → ℕ → Term = λ k u v t. product (pos A) (bit (depths_end N D + k * D + pred t)) (record { constant = pos 2; entries = (depth_bit D u (pred t), negsuc 0) ∷ (depth_bit D v t, negsuc 0) ∷ [] }) in
-      e ∙ ap (λ (f : Formula). add_terms f i r) (by_ends us vs ws (λ k u v. each D (term k u v)) xs)
+  ends_of : (a : Arc) → Memᴰ a (arcs ls) → ArcOf N a
+  ends_of = arc_of N ls survey
 
   -- what the singles and the two families of pairs come to
   ends_are : (i : ℕ) (r s : List ℤ) → add_terms (touches (pos 0 -ℤ pos A) N D (λ a. a.child) (λ t. t) ks) i (add_terms (touches (pos 0 -ℤ pos A) N D (λ a. a.parent) pred ks) i (add_terms (singles (λ a. pos (2 * A)) N D ks) i r)) ≡ s → s ≡ add_terms (end_terms A N D ks) i r
@@ -183,42 +185,42 @@ module _ (A N D : ℕ) (us vs ws : List ℕ) (lent : WithDepths N D us vs ws) wh
       ∙ touches_high (pos 0 -ℤ pos A) N D (λ a. a.parent) pred ks (λ a m. (ends_of a m).parent_low) (λ s d. omega arith) i (λ a m. (ends_of a m).parent_high) h r
 
   -- an arc's bit
-  pub arc_ends_row : (i : ℕ) (a : Arc) (t : ℕ) → IsArc N D (links_of us vs ws) i a t → (r s : List ℤ) → s ≡ add_terms (single (pos (2 * A)) i ∷ []) i r → s ≡ add_terms (end_terms A N D (arcs (links_of us vs ws))) i r
+  pub arc_ends_row : (i : ℕ) (a : Arc) (t : ℕ) → IsArc N D ls i a t → (r s : List ℤ) → s ≡ add_terms (single (pos (2 * A)) i ∷ []) i r → s ≡ add_terms (end_terms A N D (arcs ls)) i r
   arc_ends_row i a t is r s e =
       ends_are i r s (no_pairs i (omega (arith, is.here, arc_above N D a t)) (add_terms (singles (λ b. pos (2 * A)) N D ks) i r)
-      ∙ singles_own (λ b. pos (2 * A)) N D (links_of us vs ws) i a t is r ∙ sym e)
+      ∙ singles_own (λ b. pos (2 * A)) N D ls i a t is r ∙ sym e)
 
   -- a bit behind
-  pub behind_ends_row : (i : ℕ) → arcs_end N D (length (links_of us vs ws)) ≤ i → (r : List ℤ) → r ≡ add_terms (end_terms A N D (arcs (links_of us vs ws))) i r
+  pub behind_ends_row : (i : ℕ) → arcs_end N D (length ls) ≤ i → (r : List ℤ) → r ≡ add_terms (end_terms A N D (arcs ls)) i r
   behind_ends_row i h r =
-      ends_are i r r (no_pairs i (omega arith) (add_terms (singles (λ b. pos (2 * A)) N D ks) i r) ∙ behind_singles (λ b. pos (2 * A)) N D (links_of us vs ws) i h r)
+      ends_are i r r (no_pairs i (omega arith) (add_terms (singles (λ b. pos (2 * A)) N D ks) i r) ∙ behind_singles (λ b. pos (2 * A)) N D ls i h r)
 
   -- a depth's bit
   module _ (i v t : ℕ) (is : IsDepth N D i v t) where
     -- the arcs out of the meter, one deeper
-    out_row : Alike (touches (pos 0 -ℤ pos A) N D (λ a. a.parent) pred ks) (pairs_within (pos 0 -ℤ pos A) i N D v (t + 1) (arcs_between vs us)) i
-    unfolding pairs_into
+    out_row : Alike (touches (pos 0 -ℤ pos A) N D (λ a. a.parent) pred ks) (pairs_within Parent (pos 0 -ℤ pos A) i N D v (t + 1) (arcs ls)) i
+    unfolding pairs_at
     out_row r = elim (dec_le (t + 1) D) [
       | yes h ↦ touches_at (pos 0 -ℤ pos A) N D (λ a. a.parent) pred ks (λ a m. (ends_of a m).parent_low) (λ s d. omega arith) i v t is (t + 1) (omega arith) h (omega arith) (λ s l e. omega arith) r
-          ∙ ap (λ (f : Formula). add_terms f i r) (by_parent us vs ws (λ k m. pair_at (pos 0 -ℤ pos A) i (N * suc D + k * D + pred (t + 1)) m v) lent.arrays.same_v ∙ sym (within_yes (pos 0 -ℤ pos A) i N D v (t + 1) (arcs_between vs us) (omega arith) h))
+          ∙ ap (λ (f : Formula). add_terms f i r) (sym (within_yes Parent (pos 0 -ℤ pos A) i N D v (t + 1) (arcs ls) (omega arith) h))
       | no h ↦ touches_none (pos 0 -ℤ pos A) N D (λ a. a.parent) pred ks (λ a m. (ends_of a m).parent_low) (λ s d. omega arith) i v t is (λ s l d e. h (omega arith)) r
-          ∙ within_none (pos 0 -ℤ pos A) i N D v (t + 1) (arcs_between vs us) r (within_deep (pos 0 -ℤ pos A) i N D v (t + 1) (arcs_between vs us) (omega arith))
+          ∙ within_none Parent (pos 0 -ℤ pos A) i N D v (t + 1) (arcs ls) r (within_deep Parent (pos 0 -ℤ pos A) i N D v (t + 1) (arcs ls) (omega arith))
     ]
 
     -- the arcs into it
-    in_row : Alike (touches (pos 0 -ℤ pos A) N D (λ a. a.child) (λ s. s) ks) (pairs_within (pos 0 -ℤ pos A) i N D v t (arcs_between us vs)) i
-    unfolding pairs_into
+    in_row : Alike (touches (pos 0 -ℤ pos A) N D (λ a. a.child) (λ s. s) ks) (pairs_within Child (pos 0 -ℤ pos A) i N D v t (arcs ls)) i
+    unfolding pairs_at
     in_row r = elim (dec_le 1 t) [
       | yes h ↦ touches_at (pos 0 -ℤ pos A) N D (λ a. a.child) (λ s. s) ks (λ a m. (ends_of a m).child_low) (λ s d. d) i v t is t h is.deep refl (λ s l e. e) r
-          ∙ ap (λ (f : Formula). add_terms f i r) (by_ends us vs ws (λ k u m. pair_at (pos 0 -ℤ pos A) i (N * suc D + k * D + pred t) m v) [] ∙ sym (within_yes (pos 0 -ℤ pos A) i N D v t (arcs_between us vs) h is.deep))
+          ∙ ap (λ (f : Formula). add_terms f i r) (sym (within_yes Child (pos 0 -ℤ pos A) i N D v t (arcs ls) h is.deep))
       | no h ↦ touches_none (pos 0 -ℤ pos A) N D (λ a. a.child) (λ s. s) ks (λ a m. (ends_of a m).child_low) (λ s d. d) i v t is (λ s l d e. h (omega arith)) r
-          ∙ within_none (pos 0 -ℤ pos A) i N D v t (arcs_between us vs) r (within_zero (pos 0 -ℤ pos A) i N D v t (arcs_between us vs) (omega arith))
+          ∙ within_none Child (pos 0 -ℤ pos A) i N D v t (arcs ls) r (within_zero Child (pos 0 -ℤ pos A) i N D v t (arcs ls) (omega arith))
     ]
 
-    pub depth_ends_row : (r r₁ r₂ : List ℤ) → r₁ ≡ add_terms (pairs_within (pos 0 -ℤ pos A) i N D v (t + 1) (arcs_between vs us)) i r → r₂ ≡ add_terms (pairs_within (pos 0 -ℤ pos A) i N D v t (arcs_between us vs)) i r₁ → r₂ ≡ add_terms (end_terms A N D (arcs (links_of us vs ws))) i r
+    pub depth_ends_row : (r r₁ r₂ : List ℤ) → r₁ ≡ add_terms (pairs_within Parent (pos 0 -ℤ pos A) i N D v (t + 1) (arcs ls)) i r → r₂ ≡ add_terms (pairs_within Child (pos 0 -ℤ pos A) i N D v t (arcs ls)) i r₁ → r₂ ≡ add_terms (end_terms A N D (arcs ls)) i r
     depth_ends_row r r₁ r₂ e₁ e₂ =
         ends_are i r r₂
         (in_row (add_terms (touches (pos 0 -ℤ pos A) N D (λ a. a.parent) pred ks) i (add_terms (singles (λ b. pos (2 * A)) N D ks) i r))
-        ∙ ap (add_terms (pairs_within (pos 0 -ℤ pos A) i N D v t (arcs_between us vs)) i)
-        (out_row (add_terms (singles (λ b. pos (2 * A)) N D ks) i r) ∙ ap (add_terms (pairs_within (pos 0 -ℤ pos A) i N D v (t + 1) (arcs_between vs us)) i) (depth_singles (λ b. pos (2 * A)) N D ks i v t is r) ∙ sym e₁)
+        ∙ ap (add_terms (pairs_within Child (pos 0 -ℤ pos A) i N D v t (arcs ls)) i)
+        (out_row (add_terms (singles (λ b. pos (2 * A)) N D ks) i r) ∙ ap (add_terms (pairs_within Parent (pos 0 -ℤ pos A) i N D v (t + 1) (arcs ls)) i) (depth_singles (λ b. pos (2 * A)) N D ks i v t is r) ∙ sym e₁)
         ∙ sym e₂)

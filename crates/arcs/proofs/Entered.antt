@@ -2,18 +2,18 @@
 use Prim.Native.Nat.{ℕ, zero, suc, pred, ◌+◌, ◌-◌, ◌*◌, ◌≤◌, ◌<◌}
 use mathlib.Core.Path.{◌≡◌, refl, sym, ap, ◌∙◌}
 use mathlib.Core.List.{List}
-use lib.ListN.{length, get_or, set, length-set}
+use lib.ListN.{length, get_or}
 use native.Mathlib.Omega.{arith}
 use native.Mathlib.Decide.{ℕ_discrete, dec_lt}
 use native.Mathlib.Nat.{one-mul, zero-mul, mul-zero, add-zero}
 use borrow.Rule.Slice.PartMut.{put_mid}
 use Rattle.lists.specs.Sums.{sum_to, same, gap}
 use Rattle.lists.proofs.Sums.{same_yes, same_no, same_le, sum_to_eq, sum_of_le, times_bit}
-use Rattle.lists.proofs.Stores.{added_here, added_elsewhere}
-use Rattle.links.specs.Links.{Link, links_of}
-use Rattle.links.specs.Survey.{Survey, Ends}
+use Rattle.links.specs.Links.{link_in}
+use Rattle.links.specs.declared.Link.{Link}
+use Rattle.links.specs.Survey.{IsSurvey}
 use Rattle.links.proofs.Degree.{degree_few}
-use Rattle.links.proofs.Walk.{ends_at, few_links}
+use Rattle.links.proofs.Walk.{link_at}
 use Rattle.qubo.specs.Formula.{Bits}
 use Rattle.onehot.proofs.Parts.{part_within}
 use Rattle.arcs.specs.Arcs.{Arc, arcs, depth_bit, arc_bit, arcs_end, depth_at, arc_at}
@@ -33,21 +33,7 @@ pub record BitsAdded (part s : List ℕ) (i : ℕ) (t : List ℕ) : Type 0 where
   pub done : (j : ℕ) → j < i → get_or t j 0 ≡ get_or s j 0 + get_or part j 0
   pub rest : (j : ℕ) → i ≤ j → get_or t j 0 ≡ get_or s j 0
 
-module _ (part s : List ℕ) where
-  pub bits_start : BitsAdded part s 0 s
-  bits_start = record { size = refl; done = λ j h. absurd (omega arith); rest = λ j h. refl }
-
-  pub bits_turn : (i : ℕ) (t : List ℕ) → BitsAdded part s i t → (q : List ℕ) → i < length s → q ≡ set t i (get_or t i 0 + get_or part i 0) → BitsAdded part s (i + 1) q
-  bits_turn i t a q h e = record {
-    size = rw (e, length-set) a.size;
-    done = λ j l. elim (ℕ_discrete i j) [
-      | yes d ↦ added_here t q i (get_or part i 0) e (omega (arith, a.size)) j d ∙ rw d (ap (λ (k : ℕ). k + get_or part j 0) (a.rest j (omega arith)))
-      | no d ↦ added_elsewhere t q i (get_or part i 0) e j d ∙ a.done j (omega arith)
-    ];
-    rest = λ j l. added_elsewhere t q i (get_or part i 0) e j (omega arith) ∙ a.rest j (omega arith);
-  }
-
--- ---- add_arc: the bits of arc q added in the places of its child c
+-- ---- count_arc: the bits of arc q added in the places of its child c
 
 -- at each meter and depth
 abbrev pub EntryAdded : ℕ → ℕ → List ℕ → ℕ → ℕ → List ℕ → List ℕ → Type 0
@@ -121,57 +107,44 @@ module _ (N D q c : ℕ) (x s : List ℕ) (few : N ≤ 48) (deep : D ≤ 24) (lo
       ],
     )
 
--- ---- add_link: the two arcs of link k, between u and v
+-- ---- count_link: the two arcs of link k
 
--- what add_arc asks of arc q into c
+-- what count_arc asks of arc q into c
 abbrev pub EntryFits : ℕ → ℕ → List ℕ → ℕ → ℕ → List ℕ → Type 0
-EntryFits N D x q c s = (N ≤ 48) × (D ≤ 24) × (q < 512) × (1 ≤ c) × (c ≤ N) × Bits x × (N * suc D + q * D + D ≤ length x) × (length s ≡ 1200) × ((t : ℕ) → 1 ≤ t → t ≤ D → get_or s (depth_bit D c t) 0 < 255)
+EntryFits N D x q c s = (q < 512) × (1 ≤ c) × (c ≤ N) × Bits x × (N * suc D + q * D + D ≤ length x) × (length s ≡ 1200) × ((t : ℕ) → 1 ≤ t → t ≤ D → get_or s (depth_bit D c t) 0 < 255)
 
-module _ (N D : ℕ) (x : List ℕ) (k u v : ℕ) (s : List ℕ) (f : LinkFits N D x k u v s) where
+module _ (N D : ℕ) (x : List ℕ) (k : ℕ) (l : Link) (s : List ℕ) (f : LinkFits N D x k l s) where
+  u_high : l.u ≤ N
+  u_high = omega (arith, f.link.ordered, f.link.v_high)
+
   -- where none of their bits is set, there is nothing to add
-  pub none_added : (n : ℕ) → n ≡ link_set N D x k → n ≡ 0 → LinkAdded N D x k u v s s
+  pub none_added : (n : ℕ) → n ≡ link_set N D x k → n ≡ 0 → LinkAdded N D x k l s s
   none_added n e z = record {
     size = f.size;
-    each = λ w t a p l. let none = none_set N D x k (omega (arith, e)) t p l in rw (none.0, none.1, mul-zero, mul-zero) (omega arith);
+    each = λ w t a p h. let none = none_set N D x k (omega (arith, e)) t p h in rw (none.0, none.1, mul-zero, mul-zero) (omega arith);
   }
 
-  -- the arc up
-  pub up_room : EntryFits N D x (2 * k) v s
-  up_room = (
-    f.meters,
-    f.deep,
-    omega (arith, f.few),
-    f.v_low,
-    f.v_high,
-    f.bits,
-    omega (arith, arc_within N D (k + 1) (2 * k) (omega arith), f.inside),
-    f.size,
-    λ t p q. omega (arith, f.small v t f.v_low p q),
-  )
-
-  module _ (t : List ℕ) (up : EntryAdded N D x (2 * k) v s t) where
+  module _ (t : List ℕ) (up : EntryAdded N D x (2 * k) l.v s t) where
     -- and the arc back
-    pub back_room : EntryFits N D x (2 * k + 1) u t
+    pub back_room : EntryFits N D x (2 * k + 1) l.u t
     back_room = (
-      f.meters,
-      f.deep,
       omega (arith, f.few),
-      f.u_low,
-      f.u_high,
+      f.link.u_low,
+      u_high,
       f.bits,
       omega (arith, arc_within N D (k + 1) (2 * k + 1) (omega arith), f.inside),
       up.0,
       λ i p q. omega (
         arith,
-        f.small u i f.u_low p q,
-        up.1 u i f.u_low p q,
-        times_bit (same v u) (get_or x (N * suc D + 2 * k * D + pred i) 0) (f.bits (N * suc D + 2 * k * D + pred i)),
-        same_le v u,
+        f.small l.u i f.link.u_low p q,
+        up.1 l.u i f.link.u_low p q,
+        times_bit (same l.v l.u) (get_or x (N * suc D + 2 * k * D + pred i) 0) (f.bits (N * suc D + 2 * k * D + pred i)),
+        same_le l.v l.u,
       ),
     )
 
-    pub both_added : (r : List ℕ) → EntryAdded N D x (2 * k + 1) u t r → LinkAdded N D x k u v s r
-    both_added r back = record { size = back.0; each = λ w i a p l. omega (arith, up.1 w i a p l, back.1 w i a p l) }
+    pub both_added : (r : List ℕ) → EntryAdded N D x (2 * k + 1) l.u t r → LinkAdded N D x k l s r
+    both_added r back = record { size = back.0; each = λ w i a p h. omega (arith, up.1 w i a p h, back.1 w i a p h) }
 
 -- ---- gather_entries: the arcs of the first k links
 
@@ -180,30 +153,30 @@ pub enters : ℕ → ℕ → List ℕ → ℕ → ℕ → Arc → ℕ
 enters N D x v i a = same a.child v * arc_at N D x a i
 
 -- in each place stands how many of them lead there
-pub record EnteredTo (N D : ℕ) (x us vs : List ℕ) (k : ℕ) (counts : List ℕ) : Type 0 where
+pub record EnteredTo (N D : ℕ) (x : List ℕ) (ls : List Link) (k : ℕ) (counts : List ℕ) : Type 0 where
   pub size : length counts ≡ 1200
-  pub so_far : (ws : List ℕ) (v i : ℕ) → 1 ≤ v → 1 ≤ i → i ≤ D → ArcsSummed us vs ws (enters N D x v i) k (get_or counts (depth_bit D v i) 0)
+  pub so_far : (v i : ℕ) → 1 ≤ v → 1 ≤ i → i ≤ D → ArcsSummed ls (enters N D x v i) k (get_or counts (depth_bit D v i) 0)
 
-module _ (N D : ℕ) (x us vs : List ℕ) where
-  pub entered_start : (s : List ℕ) → length s ≡ 1200 → ((i : ℕ) → get_or s i 0 ≡ 0) → EnteredTo N D x us vs 0 s
+module _ (N D : ℕ) (x : List ℕ) (ls : List Link) where
+  pub entered_start : (s : List ℕ) → length s ≡ 1200 → ((i : ℕ) → get_or s i 0 ≡ 0) → EnteredTo N D x ls 0 s
   entered_start s e z = record {
     size = e;
-    so_far = λ ws v i a p h. rw (z (depth_bit D v i)) (summed_start us vs ws (enters N D x v i));
+    so_far = λ v i a p h. rw (z (depth_bit D v i)) (summed_start ls (enters N D x v i));
   }
 
-  pub entered_turn : (k : ℕ) → k < length us → (s : List ℕ) → EnteredTo N D x us vs k s → (r : List ℕ) → LinkAdded N D x k (get_or us k 0) (get_or vs k 0) s r → EnteredTo N D x us vs (k + 1) r
+  pub entered_turn : (k : ℕ) → k < length ls → (s : List ℕ) → EnteredTo N D x ls k s → (r : List ℕ) → LinkAdded N D x k (link_in ls k) s r → EnteredTo N D x ls (k + 1) r
   unfolding enters arc_at
   entered_turn k h s g r added = record {
     size = added.size;
-    so_far = λ ws v i a p l. rw (added.each v i a p l) (summed_turn us vs ws (enters N D x v i) k (get_or s (depth_bit D v i) 0) (g.so_far ws v i a p l) (enters N D x v i (arc_up us vs ws k) + enters N D x v i (arc_back us vs ws k)) h refl);
+    so_far = λ v i a p l. rw (added.each v i a p l) (summed_turn ls (enters N D x v i) k (get_or s (depth_bit D v i) 0) (g.so_far v i a p l) (enters N D x v i (arc_up ls k) + enters N D x v i (arc_back ls k)) h refl);
   }
 
-  pub entered_end : (k : ℕ) (s : List ℕ) → EnteredTo N D x us vs k s → length us ≤ k → (ws : List ℕ) (v i : ℕ) → 1 ≤ v → 1 ≤ i → i ≤ D → get_or s (depth_bit D v i) 0 ≡ entries_of (arcs (links_of us vs ws)) (arc_at N D x) v i
+  pub entered_end : (k : ℕ) (s : List ℕ) → EnteredTo N D x ls k s → length ls ≤ k → (v i : ℕ) → 1 ≤ v → 1 ≤ i → i ≤ D → get_or s (depth_bit D v i) 0 ≡ entries_of (arcs ls) (arc_at N D x) v i
   unfolding enters entries_of
-  entered_end k s g h ws v i a p l = summed_end us vs ws (enters N D x v i) k (get_or s (depth_bit D v i) 0) (g.so_far ws v i a p l) h
+  entered_end k s g h v i a p l = summed_end ls (enters N D x v i) k (get_or s (depth_bit D v i) 0) (g.so_far v i a p l) h
 
 -- at most 47 arcs lead into a meter
-pub entries_few : (N D : ℕ) (ls : List Link) (x : List ℕ) → Survey N ls → Bits x → (v i : ℕ) → entries_of (arcs ls) (arc_at N D x) v i ≤ 47
+pub entries_few : (N D : ℕ) (ls : List Link) (x : List ℕ) → IsSurvey N ls → Bits x → (v i : ℕ) → entries_of (arcs ls) (arc_at N D x) v i ≤ 47
 unfolding entries_of arc_at
 entries_few N D ls x s b v i =
     omega (
@@ -214,34 +187,26 @@ entries_few N D ls x s b v i =
     )
 
 -- so at most 47 of them are counted at any time
-entered_few : (N D : ℕ) (x us vs ws : List ℕ) → Survey N (links_of us vs ws) → Bits x → (k : ℕ) (s : List ℕ) → EnteredTo N D x us vs k s → (v i : ℕ) → 1 ≤ v → 1 ≤ i → i ≤ D → get_or s (depth_bit D v i) 0 ≤ 47
+entered_few : (N D : ℕ) (x : List ℕ) (ls : List Link) → IsSurvey N ls → Bits x → (k : ℕ) (s : List ℕ) → EnteredTo N D x ls k s → (v i : ℕ) → 1 ≤ v → 1 ≤ i → i ≤ D → get_or s (depth_bit D v i) 0 ≤ 47
 unfolding enters entries_of
-entered_few N D x us vs ws y b k s g v i a p l = omega (arith, (g.so_far ws v i a p l).whole, entries_few N D (links_of us vs ws) x y b v i)
+entered_few N D x ls y b k s g v i a p l = omega (arith, (g.so_far v i a p l).whole, entries_few N D ls x y b v i)
 
--- what add_link asks
-pub entered_room : (N D : ℕ) (x us vs : List ℕ) → Ends N us vs → D ≤ 24 → Bits x → arcs_end N D (length us) ≤ length x → (k : ℕ) → k < length us → (s : List ℕ) → EnteredTo N D x us vs k s → LinkFits N D x k (get_or us k 0) (get_or vs k 0) s
-entered_room N D x us vs ends deep b fits k h s g =
-    let a = ends.arrays in
-    let l = ends_at N us vs ends k h in
-    record {
-      meters = a.survey.meters_high;
-      deep = deep;
-      few = omega (arith, few_links N us vs ends);
-      u_low = l.0;
-      u_high = omega (arith, l);
-      v_low = omega (arith, l);
-      v_high = l.2;
-      bits = b;
-      inside = links_within N D (length us) k (length x) h fits;
-      size = g.size;
-      small = entered_few N D x us vs ends.weights a.survey b k s g;
-    }
+-- what count_link asks
+pub entered_room : (N D : ℕ) (x : List ℕ) (ls : List Link) → IsSurvey N ls → Bits x → arcs_end N D (length ls) ≤ length x → (k : ℕ) → k < length ls → (s : List ℕ) → EnteredTo N D x ls k s → LinkFits N D x k (link_in ls k) s
+entered_room N D x ls y b fits k h s g = record {
+  few = omega (arith, y.few);
+  link = link_at N ls y.each k h;
+  bits = b;
+  inside = links_within N D (length ls) k (length x) h fits;
+  size = g.size;
+  small = entered_few N D x ls y b k s g;
+}
 
 -- ---- entry_gaps: counts that are the arcs into each meter at each depth
 
 -- counts at which a place holds the arcs into it
 module _ (N D : ℕ) (ls : List Link) (x counts : List ℕ) (are : (v i : ℕ) → 1 ≤ v → 1 ≤ i → i ≤ D → get_or counts (depth_bit D v i) 0 ≡ entries_of (arcs ls) (arc_at N D x) v i) where
-  pub counts_small : Survey N ls → Bits x → (v i : ℕ) → 1 ≤ v → 1 ≤ i → i ≤ D → get_or counts (depth_bit D v i) 0 ≤ 48
+  pub counts_small : IsSurvey N ls → Bits x → (v i : ℕ) → 1 ≤ v → 1 ≤ i → i ≤ D → get_or counts (depth_bit D v i) 0 ≤ 48
   counts_small s b v i a p l = omega (arith, are v i a p l, entries_few N D ls x s b v i)
 
   pub entry_gaps_is : (r : ℕ) → r ≡ sum_to N (λ v. sum_to D (λ i. gap (depth_at D x v i) (get_or counts (depth_bit D v i) 0) * gap (depth_at D x v i) (get_or counts (depth_bit D v i) 0)))

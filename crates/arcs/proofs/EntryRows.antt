@@ -1,6 +1,6 @@
 -- What the terms "its depth-i bit - depth-i arcs into it" add to row i: a depth bit and an arc bit each stand in the term of one meter and one depth, with the coefficient 1 or -1. Assumes nothing.
-use Prim.Native.Nat.{ℕ, suc, pred, ◌+◌, ◌*◌, ◌/◌, ◌≤◌, ◌<◌}
-use mathlib.Core.Path.{◌≡◌, refl, sym, ap, ap₂, ◌∙◌, fun_ext}
+use Prim.Native.Nat.{ℕ, suc, ◌+◌, ◌*◌, ◌/◌, ◌≤◌, ◌<◌}
+use mathlib.Core.Path.{◌≡◌, refl, sym, ap, ap₂, ◌∙◌}
 use mathlib.Core.Bool.{Bool, true, false, cond}
 use mathlib.Core.List.{List, [], ◌∷◌, Memᴰ}
 use native.Mathlib.Omega.{arith}
@@ -10,9 +10,8 @@ use borrow.Author.Tests.{eq-eqb, ne_eqb}
 use lib.Dec.{eqb}
 use lib.ListN.{length}
 use lib.IntN.{ℤ, pos, negsuc, ◌+ℤ◌, ◌-ℤ◌, ◌*ℤ◌, +ℤ_idr}
-use Rattle.links.specs.Links.{Link, links_of}
-use Rattle.links.proofs.Arrays.{length_links_of}
-use Rattle.qubo.specs.Formula.{square}
+use Rattle.links.specs.declared.Link.{Link}
+use Rattle.links.specs.Survey.{IsSurvey}
 use Rattle.qubo.specs.Table.{only, coef}
 use Rattle.qubo.specs.Terms.{each_of, each, over, sum, bit, single, pair, times}
 use Rattle.qubo.specs.Rows.{add_terms}
@@ -21,11 +20,11 @@ use Rattle.qubo.proofs.Families.{sum_over, coef_append}
 use Rattle.qubo.proofs.TableValue.{only_same, only_other}
 use Rattle.qubo.proofs.RowAction.{add_none, add_append, add_two, add_absent, absent_each_of, add_only}
 use Rattle.qubo.proofs.RowTerms.{own, square_absent, square_row, product_split, product_empty, product_entry}
-use Rattle.arcs.specs.Arcs.{Arc, arcs, depth_bit, depths_end, arc_bit, arcs_end}
+use Rattle.arcs.specs.Arcs.{Arc, arcs, depth_bit, arc_bit, arcs_end}
 use Rattle.arcs.specs.Formula.{entering, entry_term, entry_terms}
-use Rattle.arcs.specs.Inner.{WithDepths, IsDepth, IsArc, pair_at, pairs_into, arcs_between, Held}
-use Rattle.arcs.proofs.ArcLists.{sum_over_none, sum_over_arc, arc_high, ArcOf, lent_arc}
-use Rattle.arcs.proofs.ArcWalk.{by_ends}
+use Rattle.arcs.specs.Inner.{IsDepth, IsArc, pair_at, pairs_at, Held}
+use Rattle.arcs.specs.declared.rows.End.TheVariants.{Child}
+use Rattle.arcs.proofs.ArcLists.{sum_over_none, sum_over_arc, arc_high, ArcOf, arc_of}
 use Rattle.arcs.proofs.BitsApart.{depth_below, depth_meter, depth_depth, arc_above, arc_below, arc_number, arc_depth_fact}
 
 -- ---- coefficients
@@ -127,8 +126,8 @@ module _ (A N D : ℕ) (ks : List Arc) (i : ℕ) where
 -- ---- what such a term adds: -A at bit i, q at the depth bit, and -q at each arc into the meter
 
 -- bit i times the arcs into the meter
-times_into : (q : ℤ) (N D : ℕ) (v t : ℕ) (ks : List Arc) (i : ℕ) (r : List ℤ) → add_terms (times q i (over ks (entering N D v t)) ∷ []) i r ≡ add_terms (pairs_into (q *ℤ negsuc 0) i N D v t ks) i r
-unfolding pairs_into
+times_into : (q : ℤ) (N D : ℕ) (v t : ℕ) (ks : List Arc) (i : ℕ) (r : List ℤ) → add_terms (times q i (over ks (entering N D v t)) ∷ []) i r ≡ add_terms (pairs_at Child (q *ℤ negsuc 0) i N D v t ks) i r
+unfolding pairs_at
 times_into q N D v t [] i r = product_empty q (bit i) i r ∙ sym (add_none i r)
 times_into q N D v t (a ∷ ks) i r =
     product_split q (bit i) (pos 0) (entering N D v t a) (over ks (entering N D v t)) i r
@@ -141,14 +140,14 @@ times_into q N D v t (a ∷ ks) i r =
     one false = product_empty q (bit i) i r ∙ sym (add_none i r)
 
 entry_parts : (A N D : ℕ) (ks : List Arc) (v t i : ℕ) (q : ℤ) → Held A N D ks v t i q → (r : List ℤ)
-    → add_terms (entry_term A N D ks v t ∷ []) i r ≡ add_terms (pairs_into (pos 0 -ℤ q) i N D v t ks) i (add_terms (pair q i (depth_bit D v t) ∷ []) i (add_terms (single (pos 0 -ℤ pos A) i ∷ []) i r))
+    → add_terms (entry_term A N D ks v t ∷ []) i r ≡ add_terms (pairs_at Child (pos 0 -ℤ q) i N D v t ks) i (add_terms (pair q i (depth_bit D v t) ∷ []) i (add_terms (single (pos 0 -ℤ pos A) i ∷ []) i r))
 entry_parts A N D ks v t i q h r =
     square_row (pos A) (sum (entry_form N D ks v t)) i h.factor h.has r
     ∙ add_two (single (own (pos A) (pos 0) (pos 0) h.factor h.factor) i) (times (pos 2 *ℤ (pos A *ℤ h.factor)) i (entry_form N D ks v t)) i r
     ∙ ap₂ (λ (y z : ℤ). add_terms (times y i (entry_form N D ks v t) ∷ []) i (add_terms (single z i ∷ []) i r)) (sym h.twice) (own_less (pos A) h.factor h.unit)
     ∙ product_split q (bit i) (pos 0) ((depth_bit D v t, pos 1) ∷ []) (over ks (entering N D v t)) i (add_terms (single (pos 0 -ℤ pos A) i ∷ []) i r)
     ∙ times_into q N D v t ks i (add_terms (pair q i (depth_bit D v t) ∷ []) i (add_terms (single (pos 0 -ℤ pos A) i ∷ []) i r))
-    ∙ ap (λ (z : ℤ). add_terms (pairs_into z i N D v t ks) i (add_terms (pair q i (depth_bit D v t) ∷ []) i (add_terms (single (pos 0 -ℤ pos A) i ∷ []) i r))) (solve (var 0 ⊗ con (negsuc 0)) (con (pos 0) ⊖ var 0) tt (q ∷ []))
+    ∙ ap (λ (z : ℤ). add_terms (pairs_at Child z i N D v t ks) i (add_terms (pair q i (depth_bit D v t) ∷ []) i (add_terms (single (pos 0 -ℤ pos A) i ∷ []) i r))) (solve (var 0 ⊗ con (negsuc 0)) (con (pos 0) ⊖ var 0) tt (q ∷ []))
   where
     own_less : (a w : ℤ) → w *ℤ w ≡ pos 1 → own a (pos 0) (pos 0) w w ≡ pos 0 -ℤ a
     own_less a w e =
@@ -158,17 +157,17 @@ entry_parts A N D ks v t i q h r =
 
 -- so it is added in three steps
 pub entry_done : (A N D : ℕ) (ks : List Arc) (v t i : ℕ) (q : ℤ) → Held A N D ks v t i q → (r r₁ r₂ r₃ : List ℤ)
-    → r₁ ≡ add_terms (single (pos 0 -ℤ pos A) i ∷ []) i r → r₂ ≡ add_terms (pair q i (depth_bit D v t) ∷ []) i r₁ → r₃ ≡ add_terms (pairs_into (pos 0 -ℤ q) i N D v t ks) i r₂
+    → r₁ ≡ add_terms (single (pos 0 -ℤ pos A) i ∷ []) i r → r₂ ≡ add_terms (pair q i (depth_bit D v t) ∷ []) i r₁ → r₃ ≡ add_terms (pairs_at Child (pos 0 -ℤ q) i N D v t ks) i r₂
     → r₃ ≡ add_terms (entry_term A N D ks v t ∷ []) i r
 entry_done A N D ks v t i q h r r₁ r₂ r₃ e₁ e₂ e₃ =
-    e₃ ∙ ap (add_terms (pairs_into (pos 0 -ℤ q) i N D v t ks) i) (e₂ ∙ ap (add_terms (pair q i (depth_bit D v t) ∷ []) i) e₁) ∙ sym (entry_parts A N D ks v t i q h r)
+    e₃ ∙ ap (add_terms (pairs_at Child (pos 0 -ℤ q) i N D v t ks) i) (e₂ ∙ ap (add_terms (pair q i (depth_bit D v t) ∷ []) i) e₁) ∙ sym (entry_parts A N D ks v t i q h r)
 
 -- ---- add_entries: the term of the place of bit i
 
 -- the link of an arc is one of the links, and the arc bits of those before it are below the arc's
-module _ (N D : ℕ) (us vs ws : List ℕ) (i : ℕ) (a : Arc) (t : ℕ) (is : IsArc N D (links_of us vs ws) i a t) where
-  pub arc_link : a.number / 2 ≤ length us
-  arc_link = omega (arith, div-add-mod' a.number 2, arc_high (links_of us vs ws) a is.among, length_links_of us vs ws)
+module _ (N D : ℕ) (ls : List Link) (i : ℕ) (a : Arc) (t : ℕ) (is : IsArc N D ls i a t) where
+  pub arc_link : a.number / 2 ≤ length ls
+  arc_link = omega (arith, div-add-mod' a.number 2, arc_high ls a is.among)
 
   pub arc_from : arcs_end N D (a.number / 2) ≤ i
   arc_from = let h : 2 * (a.number / 2) ≤ a.number = omega (arith, div-add-mod' a.number 2) in omega (arith, is.here, mul-le-mul_right D h)
@@ -177,52 +176,30 @@ module _ (N D : ℕ) (us vs ws : List ℕ) (i : ℕ) (a : Arc) (t : ℕ) (is : I
   pub arc_under : (k : ℕ) → k < a.number / 2 → arcs_end N D (k + 1) ≤ i
   arc_under k h = let g : 2 * (k + 1) ≤ 2 * (a.number / 2) = omega arith in omega (arith, arc_from, mul-le-mul_right D g)
 
-module _ (A N D : ℕ) (us vs ws : List ℕ) where
-  -- the weights of the links have no part in a form
-  alike : (xs : List ℕ) (v t : ℕ) → over (arcs (links_of us vs ws)) (entering N D v t) ≡ over (arcs (links_of us vs xs)) (entering N D v t)
-  alike xs v t = by_ends us vs ws (λ k u m. cond (eqb m v) ((depths_end N D + k * D + pred t, negsuc 0) ∷ []) []) xs
-
-  -- so what is added with some is added with any
-  pub entries_any : (i : ℕ) (r s : List ℤ) → s ≡ add_terms (entry_terms A N D (arcs (links_of us vs ws))) i r → (xs : List ℕ) → s ≡ add_terms (entry_terms A N D (arcs (links_of us vs xs))) i r
-  unfolding entry_terms
-  entries_any i r s e xs =
-      e ∙ ap (λ (G : ℕ → ℕ → List (ℕ × ℤ)). add_terms (each_of N (λ v. each D (λ t. square (pos A) (sum ((depth_bit D v t, pos 1) ∷ G v t))))) i r) (fun_ext (λ v. fun_ext (λ t. alike xs v t)))
-
-  term_between : (v t i : ℕ) (r s : List ℤ) → s ≡ add_terms (entry_term A N D (arcs_between us vs) v t ∷ []) i r → s ≡ add_terms (entry_term A N D (arcs (links_of us vs ws)) v t ∷ []) i r
-  term_between v t i r s e = e ∙ ap (λ (es : List (ℕ × ℤ)). add_terms (square (pos A) (sum ((depth_bit D v t, pos 1) ∷ es)) ∷ []) i r) (sym (alike [] v t))
-
+module _ (A N D : ℕ) (ls : List Link) where
   -- that of a meter's depth
   module _ (i v t : ℕ) (is : IsDepth N D i v t) where
-    pub depth_held : Held A N D (arcs_between us vs) v t i (pos (2 * A))
-    depth_held = record { factor = pos 1; has = depth_own N D i v t is (arcs_between us vs); unit = refl; twice = solve (con (pos 2) ⊗ var 0) (con (pos 2) ⊗ (var 0 ⊗ con (pos 1))) tt (pos A ∷ []) }
+    pub depth_held : Held A N D (arcs ls) v t i (pos (2 * A))
+    depth_held = record { factor = pos 1; has = depth_own N D i v t is (arcs ls); unit = refl; twice = solve (con (pos 2) ⊗ var 0) (con (pos 2) ⊗ (var 0 ⊗ con (pos 1))) tt (pos A ∷ []) }
 
-    pub depth_entry : 1 ≤ t → (r s : List ℤ) → s ≡ add_terms (entry_term A N D (arcs_between us vs) v t ∷ []) i r → s ≡ add_terms (entry_terms A N D (arcs (links_of us vs ws))) i r
-    depth_entry l r s e =
-        term_between v t i r s e
-        ∙ sym (entry_only A N D (arcs (links_of us vs ws)) i v t is.low is.high l is.deep (λ u d p q m n ne. depth_other N D i v t is (arcs (links_of us vs ws)) u d p n ne) r)
+    pub depth_entry : 1 ≤ t → (r s : List ℤ) → s ≡ add_terms (entry_term A N D (arcs ls) v t ∷ []) i r → s ≡ add_terms (entry_terms A N D (arcs ls)) i r
+    depth_entry l r s e = e ∙ sym (entry_only A N D (arcs ls) i v t is.low is.high l is.deep (λ u d p q m n ne. depth_other N D i v t is (arcs ls) u d p n ne) r)
 
     -- depth 0 has no term
-    pub root_entry : t ≤ 0 → (r : List ℤ) → r ≡ add_terms (entry_terms A N D (arcs (links_of us vs ws))) i r
-    root_entry l r = sym (entry_none A N D (arcs (links_of us vs ws)) i (λ u d p q m n. depth_other N D i v t is (arcs (links_of us vs ws)) u d p n (λ e f. omega arith)) r)
+    pub root_entry : t ≤ 0 → (r : List ℤ) → r ≡ add_terms (entry_terms A N D (arcs ls)) i r
+    root_entry l r = sym (entry_none A N D (arcs ls) i (λ u d p q m n. depth_other N D i v t is (arcs ls) u d p n (λ e f. omega arith)) r)
 
   -- that of an arc: the term of its child
-  module _ (lent : WithDepths N D us vs ws) (i : ℕ) (a : Arc) (t : ℕ) (is : IsArc N D (links_of us vs ws) i a t) where
+  module _ (survey : IsSurvey N ls) (i : ℕ) (a : Arc) (t : ℕ) (is : IsArc N D ls i a t) where
     ends : ArcOf N a
-    ends = lent_arc N D us vs ws lent a is.among
+    ends = arc_of N ls survey a is.among
 
-    pub arc_held : Held A N D (arcs_between us vs) a.child t i (pos 0 -ℤ pos (2 * A))
-    arc_held = record {
-      factor = negsuc 0;
-      has = ap (λ (es : List (ℕ × ℤ)). coef ((depth_bit D a.child t, pos 1) ∷ es) i) (sym (alike [] a.child t)) ∙ arc_own N D (links_of us vs ws) i a t is ends.child_low ends.child_high;
-      unit = refl;
-      twice = solve (con (pos 0) ⊖ con (pos 2) ⊗ var 0) (con (pos 2) ⊗ (var 0 ⊗ con (negsuc 0))) tt (pos A ∷ []);
-    }
+    pub arc_held : Held A N D (arcs ls) a.child t i (pos 0 -ℤ pos (2 * A))
+    arc_held = record { factor = negsuc 0; has = arc_own N D ls i a t is ends.child_low ends.child_high; unit = refl; twice = solve (con (pos 0) ⊖ con (pos 2) ⊗ var 0) (con (pos 2) ⊗ (var 0 ⊗ con (negsuc 0))) tt (pos A ∷ []) }
 
-    pub arc_entry : (r s : List ℤ) → s ≡ add_terms (entry_term A N D (arcs_between us vs) a.child t ∷ []) i r → s ≡ add_terms (entry_terms A N D (arcs (links_of us vs ws))) i r
-    arc_entry r s e =
-        term_between a.child t i r s e
-        ∙ sym (entry_only A N D (arcs (links_of us vs ws)) i a.child t ends.child_low ends.child_high is.low is.deep (λ u d p q m n ne. arc_other N D (links_of us vs ws) i a t is u d p q m n ne) r)
+    pub arc_entry : (r s : List ℤ) → s ≡ add_terms (entry_term A N D (arcs ls) a.child t ∷ []) i r → s ≡ add_terms (entry_terms A N D (arcs ls)) i r
+    arc_entry r s e = e ∙ sym (entry_only A N D (arcs ls) i a.child t ends.child_low ends.child_high is.low is.deep (λ u d p q m n ne. arc_other N D ls i a t is u d p q m n ne) r)
 
   -- none behind
-  pub behind_entry : (i : ℕ) → arcs_end N D (length (links_of us vs ws)) ≤ i → (r : List ℤ) → r ≡ add_terms (entry_terms A N D (arcs (links_of us vs ws))) i r
-  behind_entry i h r = sym (entry_none A N D (arcs (links_of us vs ws)) i (behind_other N D (links_of us vs ws) i h) r)
+  pub behind_entry : (i : ℕ) → arcs_end N D (length ls) ≤ i → (r : List ℤ) → r ≡ add_terms (entry_terms A N D (arcs ls)) i r
+  behind_entry i h r = sym (entry_none A N D (arcs ls) i (behind_other N D ls i h) r)

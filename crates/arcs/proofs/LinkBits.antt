@@ -1,14 +1,13 @@
 -- The bits of a link's two arcs, counted once for all sums: link_set, count_used, and what follows where none is set. Assumes nothing.
 use Prim.Native.Nat.{ℕ, suc, pred, ◌+◌, ◌*◌, ◌≤◌, ◌<◌}
-use mathlib.Core.Path.{◌≡◌, refl, sym, ap, ◌∙◌}
+use mathlib.Core.Path.{◌≡◌, refl, ap, ◌∙◌}
 use mathlib.Core.List.{List}
-use lib.ListN.{length, get_or, set, length-set, get_or-eq_default}
-use lib.Seq.{get_or-set_same, get_or-set_other}
+use lib.ListN.{length, get_or}
 use native.Mathlib.Omega.{arith}
-use native.Mathlib.Decide.{ℕ_discrete, dec_lt}
 use native.Mathlib.Nat.{mul-le-mul_right}
 use Rattle.lists.specs.Sums.{sum_to, nth}
 use Rattle.lists.proofs.Sums.{sum_to_eq, sum_to_term, sum_to_split, sum_to_bits}
+use Rattle.links.specs.declared.Link.{Link}
 use Rattle.qubo.specs.Formula.{Bits}
 use Rattle.arcs.specs.Arcs.{arcs_end, arc_at}
 use Rattle.arcs.specs.Inner.{link_set, Used}
@@ -42,9 +41,9 @@ set_parts N D x k =
     behind i p q = let e : N * suc D + 2 * k * D + pred (D + i) ≡ N * suc D + (2 * k + 1) * D + pred i = omega arith in rw e refl
 
 -- arc by arc
-pub set_halves : (N D : ℕ) (x us vs ws : List ℕ) (k : ℕ) → link_set N D x k ≡ sum_to D (arc_at N D x (arc_up us vs ws k)) + sum_to D (arc_at N D x (arc_back us vs ws k))
+pub set_halves : (N D : ℕ) (x : List ℕ) (ls : List Link) (k : ℕ) → link_set N D x k ≡ sum_to D (arc_at N D x (arc_up ls k)) + sum_to D (arc_at N D x (arc_back ls k))
 unfolding arc_at
-set_halves N D x us vs ws k = set_parts N D x k
+set_halves N D x ls k = set_parts N D x k
 
 -- where none is set, no bit of either arc is
 pub none_set : (N D : ℕ) (x : List ℕ) (k : ℕ) → link_set N D x k ≡ 0 → (i : ℕ) → 1 ≤ i → i ≤ D → (get_or x (N * suc D + 2 * k * D + pred i) 0 ≡ 0) × (get_or x (N * suc D + (2 * k + 1) * D + pred i) 0 ≡ 0)
@@ -56,30 +55,10 @@ none_set N D x k z i p q =
 
 -- ---- count_used: the first k links are counted
 
-pub record CountedTo (N D : ℕ) (x entry : List ℕ) (k : ℕ) (used : List ℕ) : Type 0 where
-  pub size : length used ≡ length entry
+pub record CountedTo (N D : ℕ) (x : List ℕ) (k : ℕ) (used : List ℕ) : Type 0 where
+  pub size : length used ≡ 256
   pub done : (j : ℕ) → j < k → get_or used j 0 ≡ link_set N D x j
 
-module _ (N D : ℕ) (x entry : List ℕ) where
-  pub counted_start : CountedTo N D x entry 0 entry
-  counted_start = record { size = refl; done = λ j h. absurd (omega arith) }
-
-  pub counted_turn : (k : ℕ) (used : List ℕ) → CountedTo N D x entry k used → k < length entry → (n : ℕ) → n ≡ link_set N D x k → CountedTo N D x entry (k + 1) (set used k n)
-  counted_turn k used c h n e = record {
-    size = rw length-set c.size;
-    done = λ j l. elim (ℕ_discrete k j) [
-      | yes d ↦ rw (← d) (get_or-set_same used k n 0 (omega (arith, c.size)) ∙ e)
-      | no d ↦ get_or-set_other used k j n 0 (λ e. d (sym e)) ∙ c.done j (omega arith)
-    ];
-  }
-
-  pub counted_end : (k : ℕ) (used : List ℕ) → CountedTo N D x entry k used → length entry ≤ k → Used N D (length entry) x used
-  counted_end k used c h = record { size = c.size; each = λ j l. c.done j (omega arith) }
-
 -- no count is above 48
-pub used_low : (N D M : ℕ) (x used : List ℕ) → D ≤ 24 → Bits x → Used N D M x used → (k : ℕ) → get_or used k 0 ≤ 48
-used_low N D M x used d b u k =
-    elim (dec_lt k M) [
-      | yes h ↦ omega (arith, u.each k h, link_set_low N D k x d b)
-      | no h ↦ let e : get_or used k 0 ≡ 0 = get_or-eq_default used 0 (omega (arith, u.size)) in omega arith
-    ]
+pub used_low : (N D M : ℕ) (x used : List ℕ) → D ≤ 24 → Bits x → Used N D M x used → (k : ℕ) → k < M → get_or used k 0 ≤ 48
+used_low N D M x used d b u k h = omega (arith, u.each k h, link_set_low N D k x d b)

@@ -4,26 +4,12 @@ use mathlib.Core.Path.{◌≡◌}
 use mathlib.Core.List.{List, Memᴰ}
 use native.Mathlib.Omega.{arith}
 use native.Mathlib.Nat.{mod-lt, mul-zero, div-add-mod', div-lt_iff_lt-mul}
-use lib.ListN.{length, get_or}
-use Rattle.links.specs.Links.{links_of}
-use Rattle.links.proofs.Arrays.{length_links_of}
+use lib.ListN.{length}
+use Rattle.links.specs.Links.{link_in}
+use Rattle.links.specs.declared.Link.{Link}
 use Rattle.arcs.specs.Arcs.{Arc, arcs, depths_end, arc_bit, arcs_end}
-use Rattle.arcs.specs.Inner.{IsDepth, IsArc}
-use Rattle.arcs.proofs.ArcLists.{up_among, back_among}
-
--- with D + 1 bits for each meter
-pub is_depth : (N D i : ℕ) → i < depths_end N D → IsDepth N D i (i / suc D + 1) (i % suc D)
-is_depth N D i h =
-    let w : 1 ≤ suc D = omega arith in
-    let q : i / suc D < N = (div-lt_iff_lt-mul w).1 h in
-    let m : i % suc D < suc D = mod-lt i w in
-    let e : pred (i / suc D + 1) ≡ i / suc D = omega arith in
-    record {
-      low = omega arith;
-      high = omega arith;
-      deep = omega arith;
-      here = rw e (omega (arith, div-add-mod' i (suc D)));
-    }
+use Rattle.arcs.specs.Inner.{IsArc}
+use Rattle.arcs.proofs.ArcLists.{there, back, up_among, back_among}
 
 -- off bits behind those of depths, with D bits for each arc
 module _ (N D M i : ℕ) (h : depths_end N D ≤ i) (below : i < arcs_end N D M) where
@@ -56,24 +42,18 @@ module _ (N D M i : ℕ) (h : depths_end N D ≤ i) (below : i < arcs_end N D M)
       let p : pred (off % D + 1) ≡ off % D = omega arith in
       rw (e, p) (omega (arith, div-add-mod' off D))
 
-module _ (N D : ℕ) (us vs ws : List ℕ) (i : ℕ) where
-  pub is_behind : arcs_end N D (length us) ≤ i → arcs_end N D (length (links_of us vs ws)) ≤ i
-  is_behind g = rw (length_links_of us vs ws) g
+module _ (N D : ℕ) (ls : List Link) (i : ℕ) (h : depths_end N D ≤ i) (below : i < arcs_end N D (length ls)) where
+  abbrev arc_at_bit : ℕ
+  arc_at_bit = (i - depths_end N D) / D
 
-  module _ (h : depths_end N D ≤ i) (below : i < arcs_end N D (length us)) where
-    abbrev arc_at_bit : ℕ
-    arc_at_bit = (i - depths_end N D) / D
+  placed : (a : Arc) → a.number ≡ arc_at_bit → Memᴰ a (arcs ls) → IsArc N D ls i a ((i - depths_end N D) % D + 1)
+  placed a e m = record { among = m; low = omega arith; deep = omega (arith, depth_inside N D (length ls) i h below); here = arc_here N D (length ls) i h below a e }
 
-    placed : (a : Arc) → a.number ≡ arc_at_bit → Memᴰ a (arcs (links_of us vs ws)) → IsArc N D (links_of us vs ws) i a ((i - depths_end N D) % D + 1)
-    placed a e m = record { among = m; low = omega arith; deep = omega (arith, depth_inside N D (length us) i h below); here = arc_here N D (length us) i h below a e }
+  pub is_there : (i - depths_end N D) / D % 2 ≡ 0 → IsArc N D ls i (there ((i - depths_end N D) / D) (link_in ls ((i - depths_end N D) / D / 2))) ((i - depths_end N D) % D + 1)
+  is_there e = placed _ (omega arith) (up_among ls (arc_at_bit / 2) arc_at_bit (link_inside N D (length ls) i h below) (omega (arith, div-add-mod' arc_at_bit 2)))
 
-    pub is_there : (i - depths_end N D) / D % 2 ≡ 0
-        → IsArc N D (links_of us vs ws) i (record { number = (i - depths_end N D) / D; parent = get_or us ((i - depths_end N D) / D / 2) 0; child = get_or vs ((i - depths_end N D) / D / 2) 0; weight = get_or ws ((i - depths_end N D) / D / 2) 0 }) ((i - depths_end N D) % D + 1)
-    is_there e = placed _ (omega arith) (up_among us vs ws (arc_at_bit / 2) arc_at_bit (link_inside N D (length us) i h below) (omega (arith, div-add-mod' arc_at_bit 2)))
-
-    pub is_back : ((i - depths_end N D) / D % 2 ≡ 0 → ⊥)
-        → IsArc N D (links_of us vs ws) i (record { number = (i - depths_end N D) / D; parent = get_or vs ((i - depths_end N D) / D / 2) 0; child = get_or us ((i - depths_end N D) / D / 2) 0; weight = get_or ws ((i - depths_end N D) / D / 2) 0 }) ((i - depths_end N D) % D + 1)
-    is_back e =
-        let t : 1 ≤ 2 = omega arith in
-        let m = mod-lt arc_at_bit t in
-        placed _ (omega arith) (back_among us vs ws (arc_at_bit / 2) arc_at_bit (link_inside N D (length us) i h below) (omega (arith, div-add-mod' arc_at_bit 2)))
+  pub is_back : ((i - depths_end N D) / D % 2 ≡ 0 → ⊥) → IsArc N D ls i (back ((i - depths_end N D) / D) (link_in ls ((i - depths_end N D) / D / 2))) ((i - depths_end N D) % D + 1)
+  is_back e =
+      let t : 1 ≤ 2 = omega arith in
+      let m = mod-lt arc_at_bit t in
+      placed _ (omega arith) (back_among ls (arc_at_bit / 2) arc_at_bit (link_inside N D (length ls) i h below) (omega (arith, div-add-mod' arc_at_bit 2)))

@@ -9,7 +9,7 @@ use native.Mathlib.Decide.{dec_lt}
 use native.Mathlib.Nat.{mul-le-mul}
 use borrow.Rule.Slice.PartMut.{put_mid, same_len_mid, take_put, drop_put}
 use Rattle.lists.specs.Sums.{sum_to, nth}
-use Rattle.lists.proofs.Sums.{sum_to_eq, nth_suc}
+use Rattle.lists.proofs.Sums.{sum_to_eq, sum_to_bits, nth_suc}
 use Rattle.qubo.specs.Formula.{Bits}
 use Rattle.onehot.proofs.Parts.{one_less, part_within}
 use Rattle.arcs.specs.Arcs.{depth_bit, depths_end, arcs_end}
@@ -46,6 +46,10 @@ module _ (x : List ℕ) (s e n : ℕ) (is : e ≡ s + n) (fits : e ≤ length x)
   pub slice_short : n < 256 → Bits x → Bits (slice x s e) × (length (slice x s e) < 256)
   slice_short h b = (slice_bits b, rw slice_length h)
 
+  -- as many at most as there are
+  pub slice_few : Bits x → (r : ℕ) → r ≡ sum_to (length (slice x s e)) (nth (slice x s e)) → r ≤ n
+  slice_few b r h = omega (arith, h, slice_sum, sum_to_bits n (λ i. get_or x (s + pred i) 0) (λ i. b (s + pred i)))
+
 -- ---- a part put back, altered
 
 module _ (s : List ℕ) (a e n : ℕ) (is : e ≡ a + n) (fits : e ≤ length s) (y : List ℕ) (size : length y ≡ n) where
@@ -77,10 +81,6 @@ pub start_is : (D v : ℕ) → 1 ≤ v → (v - 1) * suc D ≡ depth_bit D v 0
 start_is D zero h = absurd (omega arith)
 start_is D (suc k) h = rw (one_less k) (omega arith)
 
-pub count_start_is : (N D M d v b : ℕ) → 1 ≤ v → b ≡ arcs_end N D M → b + (v - 1) * d ≡ arcs_end N D M + pred v * d
-count_start_is N D M d zero b h e = absurd (omega arith)
-count_start_is N D M d (suc k) b h e = rw (one_less k, e) refl
-
 -- 48 meters at depths to 24 have at most 1,200 bits
 pub depths_few : (N D : ℕ) → N ≤ 48 → D ≤ 24 → depths_end N D ≤ 1200
 depths_few N D a b = mul-le-mul {n₁ = N} {m₁ = suc D} {n₂ = 48} {m₂ = 25} a (omega arith)
@@ -92,18 +92,6 @@ arc_small N D k a b c = omega (arith, depths_few N D a b, mul-le-mul {n₁ = k} 
 -- 512 are the arcs of 256 links
 pub ends_few : (N D M : ℕ) → N ≤ 48 → D ≤ 24 → M ≤ 256 → arcs_end N D M ≤ 13488
 ends_few N D M n d m = arc_small N D (2 * M) n d (omega arith)
-
--- at most 47 meters come before one
-pub start_small : (D v : ℕ) → D ≤ 24 → v ≤ 48 → (v - 1) * suc D ≤ 1175
-start_small D v d h = mul-le-mul {n₁ = v - 1} {m₁ = suc D} {n₂ = 47} {m₂ = 25} (omega arith) (omega arith)
-
--- 48 meters have at most 2,256 neighbour-count bits
-pub counts_few : (N d : ℕ) → N ≤ 48 → d ≤ 47 → N * d ≤ 2256
-counts_few N d a b = mul-le-mul {n₂ = 48} {m₂ = 47} a b
-
--- so there are at most 15,744 bits in all
-pub bits_few : (N D M d : ℕ) → N ≤ 48 → D ≤ 24 → M ≤ 256 → d ≤ 47 → arcs_end N D M + N * d ≤ 15744
-bits_few N D M d n e m l = omega (arith, ends_few N D M n e m, counts_few N d n l)
 
 -- a meter's bits end within those of all
 pub meter_within : (D v N : ℕ) → 1 ≤ v → v ≤ N → depth_bit D v 0 + suc D ≤ N * suc D

@@ -1,17 +1,20 @@
 -- Laws that the proofs of src/sums.rt cite: sums over depths, meters and arcs as the loops add them up. Assumes nothing.
 use Prim.Native.Nat.{ℕ, zero, suc, pred, ◌+◌, ◌-◌, ◌*◌, ◌≤◌, ◌<◌}
 use mathlib.Core.Path.{◌≡◌, refl, sym, ap, ap₂, ◌∙◌}
+use mathlib.Core.Bool.{true}
 use mathlib.Core.List.{List}
-use lib.ListN.{length, get_or, take, get_or-eq_default}
+use lib.ListN.{length, get_or, take}
 use lib.Seq.{get_or-take, length-take-le}
 use native.Mathlib.Omega.{arith}
-use native.Mathlib.Decide.{dec_lt}
 use native.Mathlib.Numerals.{add-one}
 use native.Mathlib.Nat.{mul-le-mul, mul-add, zero-mul}
 use Rattle.lists.specs.Sums.{sum_to, sum_of, gap, nth}
 use Rattle.lists.proofs.Sums.{gap_small, sum_to_zero, sum_to_next, sum_to_eq, sum_to_none, nth_suc}
-use Rattle.links.specs.Links.{links_of}
-use Rattle.qubo.specs.Formula.{Bits, Assignment}
+use Rattle.lists.specs.Tests.{all}
+use Rattle.links.specs.Links.{link_ok, link_in}
+use Rattle.links.specs.declared.Link.{Link}
+use Rattle.links.proofs.Walk.{link_at}
+use Rattle.qubo.specs.Formula.{Bits}
 use Rattle.onehot.specs.Choices.{bit_at, set_at, miss_squared, misses}
 use Rattle.arcs.specs.Arcs.{Arc, arcs, depth_bit, depth_at, arc_at}
 use Rattle.arcs.specs.Sums.{root_miss, depth_misses, end_misses, arc_cost}
@@ -48,16 +51,6 @@ root_miss_is N D x k r e d = rw e at d
 module _ (N D : ℕ) (x : List ℕ) (fits : N * suc D ≤ length x) where
   pub front_length : N * suc D ≡ length (take (N * suc D) x)
   front_length = sym (length-take-le (N * suc D) x (omega arith))
-
-  front_bits : Bits x → Bits (take (N * suc D) x)
-  front_bits b k =
-      elim (dec_lt k (N * suc D)) [
-        | yes h ↦ rw (get_or-take (N * suc D) x k 0 h) (b k)
-        | no h ↦ omega (arith, get_or-eq_default (take (N * suc D) x) 0 (let l : length (take (N * suc D) x) ≤ k = omega (arith, front_length) in l))
-      ]
-
-  pub front_assignment : Bits x → Assignment (N * suc D) (take (N * suc D) x)
-  front_assignment b = record { size = sym front_length; bits = front_bits b }
 
   pub depth_misses_is : (r : ℕ) → r ≡ misses N (suc D) (bit_at (suc D) (take (N * suc D) x)) → r ≡ depth_misses N D (depth_at D x)
   unfolding misses set_at bit_at depth_misses depth_at
@@ -204,23 +197,6 @@ module _ (N D q u v : ℕ) (x : List ℕ) (a p b : ℕ) (start : a ≡ N * suc D
   own_length : length (slice x a (a + D)) ≡ D
   own_length = slice_length x a (a + D) D refl own_fits
 
-  -- what part_misses asks of them
-  pub misses_room : D ≤ 24 → Bits x
-      → (length (slice x a (a + D)) ≤ 24)
-      × (length (slice x p (p + D)) ≡ length (slice x a (a + D)))
-      × (length (slice x b (b + D)) ≡ length (slice x a (a + D)))
-      × Bits (slice x a (a + D))
-      × Bits (slice x p (p + D))
-      × Bits (slice x b (b + D))
-  misses_room d c = (
-    omega (arith, own_length),
-    slice_length x p (p + D) D refl above_fits ∙ sym own_length,
-    slice_length x b (b + D) D refl below_fits ∙ sym own_length,
-    slice_bits x a (a + D) D refl own_fits c,
-    slice_bits x p (p + D) D refl above_fits c,
-    slice_bits x b (b + D) D refl below_fits c,
-  )
-
   pub arc_misses_is : (r : ℕ) → r ≡ sum_to (length (slice x a (a + D))) (λ i. nth (slice x a (a + D)) i * (2 - (nth (slice x p (p + D)) i + nth (slice x b (b + D)) i)))
       → r ≡ sum_to D (λ i. get_or x (N * suc D + q * D + pred i) 0 * (2 - (depth_at D x u (pred i) + depth_at D x v i)))
   unfolding depth_at
@@ -259,11 +235,11 @@ unset_misses D b m z = sum_to_none D (λ i. b i * (2 - m i)) (λ i p q. unset (b
     unset a c z = rw z (zero-mul c)
 
 -- what the two arcs of link k give
-module _ (N D : ℕ) (x us vs ws : List ℕ) (k : ℕ) where
+module _ (N D : ℕ) (x : List ℕ) (ls : List Link) (k : ℕ) where
   pub misses_link : (r : ℕ)
-      → r ≡ sum_to D (λ i. get_or x (N * suc D + 2 * k * D + pred i) 0 * (2 - (depth_at D x (get_or us k 0) (pred i) + depth_at D x (get_or vs k 0) i)))
-      + sum_to D (λ i. get_or x (N * suc D + (2 * k + 1) * D + pred i) 0 * (2 - (depth_at D x (get_or vs k 0) (pred i) + depth_at D x (get_or us k 0) i)))
-      → r ≡ misses_of N D x (arc_up us vs ws k) + misses_of N D x (arc_back us vs ws k)
+      → r ≡ sum_to D (λ i. get_or x (N * suc D + 2 * k * D + pred i) 0 * (2 - (depth_at D x (link_in ls k).u (pred i) + depth_at D x (link_in ls k).v i)))
+      + sum_to D (λ i. get_or x (N * suc D + (2 * k + 1) * D + pred i) 0 * (2 - (depth_at D x (link_in ls k).v (pred i) + depth_at D x (link_in ls k).u i)))
+      → r ≡ misses_of N D x (arc_up ls k) + misses_of N D x (arc_back ls k)
   unfolding misses_of arc_at
   misses_link r e = e
 
@@ -282,25 +258,25 @@ module _ (N D : ℕ) (x us vs ws : List ℕ) (k : ℕ) where
           unset_misses D (λ i. get_or x (N * suc D + (2 * k + 1) * D + pred i) 0) (λ i. depth_at D x v (pred i) + depth_at D x u i) (λ i p q. (none i p q).1),
         )
 
-    pub cost_link : get_or ws k 0 * n ≡ cost_of N D x (arc_up us vs ws k) + cost_of N D x (arc_back us vs ws k)
+    pub cost_link : (link_in ls k).weight * n ≡ cost_of N D x (arc_up ls k) + cost_of N D x (arc_back ls k)
     unfolding cost_of
-    cost_link = ap (λ (m : ℕ). get_or ws k 0 * m) (set ∙ set_halves N D x us vs ws k) ∙ mul-add (get_or ws k 0) (sum_to D (arc_at N D x (arc_up us vs ws k))) (sum_to D (arc_at N D x (arc_back us vs ws k)))
+    cost_link = ap (λ (m : ℕ). (link_in ls k).weight * m) (set ∙ set_halves N D x ls k) ∙ mul-add ((link_in ls k).weight) (sum_to D (arc_at N D x (arc_up ls k))) (sum_to D (arc_at N D x (arc_back ls k)))
 
 -- a weight is at most 65,535, and a link has at most 48 bits
-pub cost_small : (w n : ℕ) → w ≤ 65535 → n ≤ 48 → w * n ≤ 3145680
-cost_small w n a b = mul-le-mul {n₁ = w} {m₁ = n} {n₂ = 65535} {m₂ = 48} a b
+pub cost_small : (N : ℕ) (ls : List Link) → all (link_ok N) ls ≡ true → (k : ℕ) → k < length ls → (n : ℕ) → n ≤ 48 → (link_in ls k).weight * n ≤ 3145680
+cost_small N ls o k h n b = mul-le-mul {m₁ = n} {n₂ = 65535} {m₂ = 48} (link_at N ls o k h).weight_high b
 
 -- ---- arc_cost: the first k links, whatever the bits are of which n are the counts
 
-pub record CostTo (used ws : List ℕ) (k sum : ℕ) : Type 0 where
-  pub so_far : (N D : ℕ) (x us vs : List ℕ) → length us ≡ length ws → Used N D (length us) x used → ArcsSummed us vs ws (cost_of N D x) k sum
+pub record CostTo (used : List ℕ) (ls : List Link) (k sum : ℕ) : Type 0 where
+  pub so_far : (N D : ℕ) (x : List ℕ) → Used N D (length ls) x used → ArcsSummed ls (cost_of N D x) k sum
 
-module _ (used ws : List ℕ) where
-  pub cost_start : CostTo used ws 0 0
-  cost_start = record { so_far = λ N D x us vs e u. summed_start us vs ws (cost_of N D x) }
+module _ (used : List ℕ) (ls : List Link) where
+  pub cost_start : CostTo used ls 0 0
+  cost_start = record { so_far = λ N D x u. summed_start ls (cost_of N D x) }
 
-  pub cost_turn : (k sum : ℕ) → CostTo used ws k sum → k < length ws → CostTo used ws (k + 1) (sum + get_or ws k 0 * get_or used k 0)
-  cost_turn k sum c h = record { so_far = λ N D x us vs e u. summed_turn us vs ws (cost_of N D x) k sum (c.so_far N D x us vs e u) (get_or ws k 0 * get_or used k 0) (omega arith) (cost_link N D x us vs ws k (get_or used k 0) (u.each k (omega arith))) }
+  pub cost_turn : (k sum : ℕ) → CostTo used ls k sum → k < length ls → CostTo used ls (k + 1) (sum + (link_in ls k).weight * get_or used k 0)
+  cost_turn k sum c h = record { so_far = λ N D x u. summed_turn ls (cost_of N D x) k sum (c.so_far N D x u) ((link_in ls k).weight * get_or used k 0) h (cost_link N D x ls k (get_or used k 0) (u.each k h)) }
 
-  pub cost_end : (k sum : ℕ) → CostTo used ws k sum → length ws ≤ k → (N D : ℕ) (x us vs : List ℕ) → length us ≡ length ws → Used N D (length us) x used → sum ≡ arc_cost D (arcs (links_of us vs ws)) (arc_at N D x)
-  cost_end k sum c h N D x us vs e u = summed_end us vs ws (cost_of N D x) k sum (c.so_far N D x us vs e u) (omega arith) ∙ cost_sum N D (arcs (links_of us vs ws)) x
+  pub cost_end : (k sum : ℕ) → CostTo used ls k sum → length ls ≤ k → (N D : ℕ) (x : List ℕ) → Used N D (length ls) x used → sum ≡ arc_cost D (arcs ls) (arc_at N D x)
+  cost_end k sum c h N D x u = summed_end ls (cost_of N D x) k sum (c.so_far N D x u) h ∙ cost_sum N D (arcs ls) x

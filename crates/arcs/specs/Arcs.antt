@@ -1,6 +1,6 @@
 -- Arcs, and the bits of depths and arcs, in document 01's words for trees: meters are 1..N, depths 0..D. Assumes nothing.
 use Rattle.std.specs.Prelude.{ℕ, suc, pred, ◌+◌, ◌*◌, List, [], ◌∷◌, get_or}
-use Rattle.links.specs.Links.{Link}
+use Rattle.links.specs.declared.Link.{Link}
 
 -- "An arc is a link in one direction, parent first"; `number` is its place among the arcs, from 0
 pub record Arc : Type 0 where

@@ -1,6 +1,10 @@
 // Depths and arcs of relay trees: the bits of both, what they add to a row, and their sums in an assignment. Kind 3 stands above this, and 02's kind 4 will.
 #![tactic(auto)]
 
-pub mod layout;
+mod layout;
+mod place;
 pub mod rows;
-pub mod sums;
+mod sums;
+
+pub use layout::Arcs;
+pub use place::Place;

@@ -3,7 +3,7 @@ use Prim.Native.Nat.{ℕ, ◌*◌, ◌≤◌}
 use mathlib.Core.Path.{◌≡◌, refl}
 use mathlib.Core.List.{List}
 use Rattle.lists.specs.Sums.{sum_of}
-use Rattle.links.specs.Links.{Link}
+use Rattle.links.specs.declared.Link.{Link}
 use Rattle.qubo.specs.Formula.{Bits}
 use Rattle.onehot.specs.Choices.{bit_at, alike_weight}
 use Rattle.onehot.proofs.Turns.{bit_bit}

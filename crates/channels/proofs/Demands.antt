@@ -9,8 +9,8 @@ use lib.IntN.{pos}
 use lib.Signed.{◌≤ℤ◌}
 use native.Mathlib.Omega.{arith}
 use Rattle.lists.specs.Sums.{nth, same}
-use Rattle.links.specs.Links.{Link}
-use Rattle.links.specs.Survey.{Survey}
+use Rattle.links.specs.declared.Link.{Link}
+use Rattle.links.specs.Survey.{IsSurvey}
 use Rattle.qubo.specs.Formula.{Assignment}
 use Rattle.qubo.specs.Instance.{Instance, energy_of, LeastEnergy, CodesLeast}
 use Rattle.qubo.proofs.Order.{≤ℤ_pos, pos-≤ℤ}
@@ -54,7 +54,7 @@ none_coded : (N n : ℕ) (ls : List Link) → 1 ≤ n → (x : List ℕ) → Ass
 unfolding code_of decoded
 none_coded N n ls n1 x a z = repair_hot (quietest n ls x) N n n1 x (quietest_picks n ls x n1) a (none_repaired N n x z)
 
-module _ (N n : ℕ) (ls : List Link) (s : Survey N ls) (w : within_limits n ≡ true) (A : ℕ) where
+module _ (N n : ℕ) (ls : List Link) (s : IsSurvey N ls) (w : within_limits n ≡ true) (A : ℕ) where
   abbrev I : Instance
   I = instance A N n ls
 

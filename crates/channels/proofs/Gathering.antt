@@ -1,17 +1,25 @@
 -- The sums of link weights at the meters: gathered link by link, and none is great. Assumes nothing.
-use Prim.Native.Nat.{ℕ, ◌+◌, ◌≤◌, ◌<◌, max}
-use mathlib.Core.Path.{◌≡◌, refl, sym, ap, ◌∙◌}
+use Prim.Native.Nat.{ℕ, suc, ◌+◌, ◌-◌, ◌≤◌, ◌<◌, max}
+use mathlib.Core.Path.{◌≡◌, refl, sym, ap, ap₂, ◌∙◌}
+use mathlib.Core.Bool.{cond}
 use mathlib.Core.List.{List}
-use lib.ListN.{length, get_or, set, length-set}
+use lib.ListN.{length, get_or, set, take, drop, length-set, length-take, length-drop}
+use lib.Seq.{get_or-take, get_or-drop}
 use native.Mathlib.Omega.{arith}
 use native.Mathlib.Decide.{ℕ_discrete}
 use native.Mathlib.Numerals.{add-one}
+use native.Mathlib.Nat.{add_comm}
+use Rattle.std.proofs.Common.{Ordering, Less, Equal, Greater}
+use Rattle.std.specs.Ordering.{MatchOrdering, is_lt, nat_cmp, ord_max}
+use Rattle.std.specs.Cmp.{ranks}
 use Rattle.lists.specs.Sums.{greatest}
 use Rattle.lists.proofs.Sums.{greatest_eq, greatest_zero, greatest_next}
 use Rattle.lists.proofs.Stores.{added_here, added_elsewhere}
-use Rattle.links.specs.Links.{Link, link_in, links_of}
-use Rattle.links.specs.Survey.{Arrays}
-use Rattle.links.proofs.Walk.{link_at, Summed, summed_start, summed_turn, summed_end}
+use Rattle.links.specs.Links.{nothing, link_in}
+use Rattle.links.specs.declared.Link.{Link}
+use Rattle.links.specs.Survey.{IsSurvey}
+use Rattle.links.proofs.Walk.{link_at}
+use Rattle.lists.proofs.Walks.{Summed, summed_start, summed_turn, summed_end}
 use Rattle.channels.specs.Formula.{load, penalty}
 use Rattle.channels.proofs.Load.{load_of, load_u, load_v, load_none, load_sum, load_small}
 
@@ -28,44 +36,43 @@ both_added l s t q o h e f m =
       ]
     ]
 
--- ---- gather: after k links
+-- ---- loads_of: after k links
 
 -- in place m stands what they add to meter m
-pub record Gathered (us vs ws : List ℕ) (k : ℕ) (sums : List ℕ) : Type 0 where
+pub record Gathered (ls : List Link) (k : ℕ) (sums : List ℕ) : Type 0 where
   pub size : length sums ≡ 256
-  pub so_far : (m : ℕ) → Summed us vs ws (load_of m) k (get_or sums m 0)
+  pub so_far : (m : ℕ) → Summed (load_of m) ls k (get_or sums m 0)
 
-pub gather_start : (us vs ws sums : List ℕ) → length sums ≡ 256 → ((m : ℕ) → get_or sums m 0 ≡ 0) → Gathered us vs ws 0 sums
-gather_start us vs ws sums e z = record { size = e; so_far = λ m. rw (z m) (summed_start us vs ws (load_of m)) }
+pub gather_start : (ls : List Link) (sums : List ℕ) → length sums ≡ 256 → ((m : ℕ) → get_or sums m 0 ≡ 0) → Gathered ls 0 sums
+gather_start ls sums e z = record { size = e; so_far = λ m. rw (z m) (summed_start (load_of m) ls) }
 
-pub gather_end : (us vs ws sums : List ℕ) (k : ℕ) → Gathered us vs ws k sums → length us ≤ k → (m : ℕ) → get_or sums m 0 ≡ load (links_of us vs ws) m
-gather_end us vs ws sums k g h m = summed_end us vs ws (load_of m) k (get_or sums m 0) (g.so_far m) h ∙ load_sum (links_of us vs ws) m
+pub gather_end : (ls : List Link) (sums : List ℕ) (k : ℕ) → Gathered ls k sums → length ls ≤ k → (m : ℕ) → get_or sums m 0 ≡ load ls m
+gather_end ls sums k g h m = summed_end (load_of m) ls k (get_or sums m 0) (g.so_far m) h ∙ load_sum ls m
 
 -- a turn: the weight of link k is added at its end u, then at its end v
-module _ (N : ℕ) (us vs ws : List ℕ) (a : Arrays N us vs ws) (k : ℕ) (h : k < length us) (s : List ℕ) (g : Gathered us vs ws k s) where
+module _ (N : ℕ) (ls : List Link) (a : IsSurvey N ls) (k : ℕ) (h : k < length ls) (s : List ℕ) (g : Gathered ls k s) where
   sum_small : (m : ℕ) → get_or s m 0 < 4294967296
-  sum_small m = omega (arith, (g.so_far m).whole, load_sum (links_of us vs ws) m, load_small N (links_of us vs ws) a.survey m)
+  sum_small m = omega (arith, (g.so_far m).whole, load_sum ls m, load_small N ls a m)
 
   within : (m : ℕ) → m ≤ N → m < length s
-  within m l = omega (arith, a.survey.meters_high, g.size)
+  within m l = omega (arith, a.meters_high, g.size)
 
-  pub first_room : (get_or us k 0 < length s) × (get_or s (get_or us k 0) 0 < 4294967296)
-  first_room = (within (get_or us k 0) (omega (arith, link_at N us vs ws a k h)), sum_small (get_or us k 0))
+  pub first_room : ((link_in ls k).u < length s) × (get_or s (link_in ls k).u 0 < 4294967296)
+  first_room = let o = link_at N ls a.each k h in (within (link_in ls k).u (omega (arith, o.ordered, o.v_high)), sum_small (link_in ls k).u)
 
-  module _ (t : List ℕ) (first : t ≡ set s (get_or us k 0) (get_or s (get_or us k 0) 0 + get_or ws k 0)) where
-    pub second_room : (get_or vs k 0 < length t) × (get_or t (get_or vs k 0) 0 < 4294967296)
-    second_room = (
-      rw (first, length-set) (within (get_or vs k 0) (link_at N us vs ws a k h).2),
-      omega (arith, added_elsewhere s t (get_or us k 0) (get_or ws k 0) first (get_or vs k 0) (omega (arith, link_at N us vs ws a k h)), sum_small (get_or vs k 0)),
+  module _ (t : List ℕ) (first : t ≡ set s (link_in ls k).u (get_or s (link_in ls k).u 0 + (link_in ls k).weight)) where
+    pub second_room : ((link_in ls k).v < length t) × (get_or t (link_in ls k).v 0 < 4294967296)
+    second_room = let o = link_at N ls a.each k h in (
+      rw (first, length-set) (within (link_in ls k).v o.v_high),
+      omega (arith, added_elsewhere s t (link_in ls k).u (link_in ls k).weight first (link_in ls k).v (omega (arith, o.ordered)), sum_small (link_in ls k).v),
     )
 
-    pub gather_turn : (q : List ℕ) → q ≡ set t (get_or vs k 0) (get_or t (get_or vs k 0) 0 + get_or ws k 0) → Gathered us vs ws (k + 1) q
-    unfolding link_in
-    gather_turn q second = record {
+    pub gather_turn : (q : List ℕ) → q ≡ set t (link_in ls k).v (get_or t (link_in ls k).v 0 + (link_in ls k).weight) → Gathered ls (k + 1) q
+    gather_turn q second = let o = link_at N ls a.each k h in record {
       size = rw (second, length-set, first, length-set) g.size;
       so_far = λ m.
-          rw (both_added (link_in us vs ws k) s t q (link_at N us vs ws a k h).1 (within (get_or vs k 0) (link_at N us vs ws a k h).2) first second m)
-          (summed_turn us vs ws (load_of m) k (get_or s m 0) (g.so_far m) (load_of m (link_in us vs ws k)) h refl);
+          rw (both_added (link_in ls k) s t q o.ordered (within (link_in ls k).v o.v_high) first second m)
+          (summed_turn (load_of m) ls nothing k (get_or s m 0) (g.so_far m) h (load_of m (link_in ls k)) refl);
     }
 
 -- ---- greatest_load: the greatest of the sums at places 1..m
@@ -77,22 +84,34 @@ pub top_start : (sums : List ℕ) → 0 ≡ top_of sums 0
 unfolding top_of
 top_start sums = sym (greatest_zero (λ i. get_or sums i 0))
 
-module _ (sums : List ℕ) (top m : ℕ) (e : top ≡ top_of sums m) where
-  top_next : top_of sums (m + 1) ≡ max top (get_or sums (m + 1) 0)
+-- the N sums that the loop goes through
+abbrev ones : List ℕ → ℕ → List ℕ
+ones sums N = take (N + 1 - 1) (drop 1 sums)
+
+ones_length : (sums : List ℕ) (N : ℕ) → N < length sums → length (ones sums N) ≡ N
+ones_length sums N h = rw (length-take, length-drop) (omega arith)
+
+-- the greater of two as the library's `max` picks it
+max_is : (a b : ℕ) → ord_max nat_cmp a b ≡ max a b
+max_is a b = go (nat_cmp b a) (ranks b a)
+  where
+    go : (r : Ordering) → MatchOrdering r (b < a) (b ≡ a) (a < b) → cond (is_lt r) a b ≡ max a b
+    go Less h = omega arith
+    go Equal h = omega arith
+    go Greater h = omega arith
+
+module _ (sums : List ℕ) (top m : ℕ) (e : top ≡ top_of sums m) (N : ℕ) (fits : N < length sums) where
+  pub top_turn : m < length (ones sums N) → (next : ℕ) → next ≡ ord_max nat_cmp top (get_or (ones sums N) m 0) → next ≡ top_of sums (m + 1)
   unfolding top_of
-  top_next = greatest_next m (λ i. get_or sums i 0) ∙ rw (e, add-one m) refl
+  top_turn h next d =
+      let q : get_or (ones sums N) m 0 ≡ get_or sums (suc m) 0 = get_or-take (N + 1 - 1) (drop 1 sums) m 0 (omega (arith, ones_length sums N fits)) ∙ get_or-drop 1 sums m 0 ∙ ap (λ t. get_or sums t 0) (add_comm 1 m ∙ add-one m) in
+      d ∙ max_is top (get_or (ones sums N) m 0) ∙ ap₂ max e q ∙ sym (greatest_next m (λ i. get_or sums i 0))
 
-  pub top_new : top < get_or sums (m + 1) 0 → get_or sums (m + 1) 0 ≡ top_of sums (m + 1)
-  top_new h = omega (arith, top_next)
+  pub top_end : m ≤ length (ones sums N) → length (ones sums N) ≤ m → top ≡ greatest N (λ i. get_or sums i 0)
+  unfolding top_of
+  top_end a b = let d : m ≡ N = omega (arith, ones_length sums N fits) in rw (← d) e
 
-  pub top_old : get_or sums (m + 1) 0 ≤ top → top ≡ top_of sums (m + 1)
-  top_old h = omega (arith, top_next)
-
-pub top_end : (sums : List ℕ) (top m N : ℕ) → top ≡ top_of sums m → m ≡ N → top ≡ greatest N (λ i. get_or sums i 0)
-unfolding top_of
-top_end sums top m N e d = rw (← d) e
-
--- ---- penalty_of: from an array of zeros
+-- ---- own_penalty
 
 pub penalty_is : (N : ℕ) (ls : List Link) (sum : ℕ → ℕ) (top : ℕ) → ((m : ℕ) → sum m ≡ load ls m) → top ≡ greatest N sum → 1 + top ≡ penalty N ls
 unfolding penalty

@@ -1,23 +1,24 @@
--- Laws that the proofs of src/silent.rt cite: what each meter bears and what a meter hears of it, gathered link by link, and the channel on which it hears least. Assumes nothing.
+-- Laws that the proofs of src/repairing.rt cite: what each meter bears and what a meter hears of it, gathered link by link, and the channel on which it hears least. Assumes nothing.
 use Prim.Native.Nat.{ℕ, zero, suc, ◌+◌, ◌-◌, ◌*◌, ◌≤◌, ◌<◌}
-use mathlib.Core.Path.{◌≡◌, refl, sym, ◌∙◌}
-use mathlib.Core.List.{List}
-use lib.ListN.{length, get_or, set, length-set}
+use mathlib.Core.Path.{◌≡◌, refl, sym, ap, ◌∙◌, subst}
+use mathlib.Core.List.{List, ◌∷◌, ◌++◌}
+use lib.ListN.{length, get_or, set, drop, length-set}
+use lib.Seq.{drop-cons}
 use native.Mathlib.Omega.{arith}
-use native.Mathlib.Decide.{ℕ_discrete}
 use native.Mathlib.Numerals.{add-one}
-use native.Mathlib.Nat.{le_refl, mul-le-mul_right, mul-zero, zero-mul, one-mul, zero-add, add-zero}
+use native.Mathlib.Nat.{mul-le-mul_right, mul-zero, zero-mul, one-mul, zero-add, add-zero}
 use Rattle.lists.specs.Sums.{sum_of, least_at, same, nth}
 use Rattle.lists.proofs.Sums.{same_yes, same_no, same_le, nth_index, times_bit, least_at_eq, least_at_one, least_at_new, least_at_old}
 use Rattle.lists.proofs.Stores.{added_same}
-use Rattle.links.specs.Links.{Link, link_in, links_from, links_of}
-use Rattle.links.proofs.Halving.{ends_rise}
-use Rattle.links.proofs.Walk.{link_at, arrays_few, sum_from, sum_turn, sum_end, Summed, summed_start, summed_turn, summed_skip, summed_end}
-use Rattle.qubo.specs.Formula.{Bits, Assignment}
-use Rattle.onehot.specs.Inner.{WithChoices}
-use Rattle.onehot.proofs.Parts.{part_of, cut_small}
+use Rattle.lists.proofs.Walks.{sum_next, sum_past}
+use Rattle.links.specs.Links.{nothing, link_in}
+use Rattle.links.specs.declared.Link.{Link}
+use Rattle.links.specs.Survey.{LinkOf}
+use Rattle.qubo.specs.Formula.{Assignment}
+use Rattle.onehot.proofs.Parts.{part_of}
 use Rattle.onehot.proofs.Turns.{cut_length, cut_at}
 use Rattle.channels.specs.Repair.{bears, heard, quietest}
+use Rattle.channels.proofs.Halves.{Halves, lower_at, upper_at, upper_past}
 use Rattle.channels.proofs.Repaired.{bears_low, bears_high}
 
 -- ---- add_borne: w added for each channel that meter m bears
@@ -26,10 +27,9 @@ use Rattle.channels.proofs.Repaired.{bears_low, bears_high}
 abbrev pub BorneAdded : ℕ → List ℕ → List ℕ → ℕ → ℕ → List ℕ → List ℕ → Type 0
 BorneAdded n x p m w s t = (length t ≡ 256) × ((i : ℕ) → 1 ≤ i → i ≤ n → get_or t i 0 ≡ get_or s i 0 + w * bears n x p m i) × ((i : ℕ) → get_or t i 0 ≤ get_or s i 0 + w)
 
-module _ (n : ℕ) (x : List ℕ) (m : ℕ) (m1 : 1 ≤ m) (fits : m * n ≤ length x) where
-  -- the part of meter m, handed to add_part
-  pub borne_part : n ≤ 16 → Bits x → (l : ℕ) → l ≡ 256 → (length (part_of n (m - 1) x) < l) × Bits (part_of n (m - 1) x)
-  borne_part h b l e = (omega (arith, cut_length n m x m1 fits), cut_small n m (m - 1) x (omega arith) fits b)
+-- the part of a meter is in the bits
+pub meter_fits : (N n m : ℕ) (x : List ℕ) → Assignment (N * n) x → m ≤ N → m * n ≤ length x
+meter_fits N n m x a h = rw a.size (mul-le-mul_right n h)
 
 module _ (n : ℕ) (x p : List ℕ) (m w : ℕ) (s t : List ℕ) (size : length s ≡ 256) (m1 : 1 ≤ m) where
   -- a meter whose channel is in the plan
@@ -51,15 +51,7 @@ module _ (n : ℕ) (x p : List ℕ) (m w : ℕ) (s t : List ℕ) (size : length 
     most,
   )
 
--- ---- next_of: the links from `from` up to k have another upper end
-
-abbrev pub Passed : List ℕ → ℕ → ℕ → ℕ → Type 0
-Passed vs m from k = (j : ℕ) → from ≤ j → j < k → get_or vs j 0 ≡ m → ⊥
-
-pub passed_next : (vs : List ℕ) (m from k : ℕ) → Passed vs m from k → (get_or vs k 0 ≡ m → ⊥) → Passed vs m from (k + 1)
-passed_next vs m from k g n j a b e = elim (ℕ_discrete j k) [ yes d ↦ n (rw d at e) | no d ↦ g j a (omega arith) e ]
-
--- ---- gather_lower, gather_higher: what meter m hears on each channel of the first k links
+-- ---- heard_at: what meter m hears on each channel, link by link
 
 -- what a link adds on channel i, where b says what a meter bears
 pub hears : (ℕ → ℕ → ℕ) → ℕ → ℕ → Link → ℕ
@@ -79,106 +71,119 @@ module _ (b : ℕ → ℕ → ℕ) (m i : ℕ) (l : Link) where
   unfolding hears
   hears_none e d = rw (same_no l.u m e, same_no l.v m d, zero-mul (b l.v i), zero-mul (b l.u i), mul-zero) refl
 
--- a sum over the links from k on, of which there are r, is one over the list of them
-sum_left : (us vs ws : List ℕ) (f : Link → ℕ) (r k : ℕ) → k + r ≡ length us → sum_from us vs ws f k ≡ sum_of (links_from us vs ws k r) f
-unfolding links_from sum_of
-sum_left us vs ws f zero k e = sum_end us vs ws f k (omega arith)
-sum_left us vs ws f (suc r) k e = sum_turn us vs ws f k (omega arith) ∙ rw (add-one k, sum_left us vs ws f r (suc k) (omega arith)) refl
-
--- in place i stands what m hears on channel i, and no place holds much
-pub record HeardSoFar (n : ℕ) (x p us vs ws : List ℕ) (m k : ℕ) (sums : List ℕ) : Type 0 where
+-- in place i stands what m hears on channel i of the links but those of `rest`, and no place holds much after so many links
+pub record HeardBut (n : ℕ) (x p : List ℕ) (ls : List Link) (m : ℕ) (rest : List Link) (links : ℕ) (sums : List ℕ) : Type 0 where
   pub size : length sums ≡ 256
-  pub small : (i : ℕ) → get_or sums i 0 ≤ 65535 * k
-  pub so_far : (i : ℕ) → 1 ≤ i → i ≤ n → Summed us vs ws (hears (bears n x p) m i) k (get_or sums i 0)
+  pub small : (i : ℕ) → get_or sums i 0 ≤ 65535 * links
+  pub so_far : (i : ℕ) → 1 ≤ i → i ≤ n → get_or sums i 0 + sum_of rest (hears (bears n x p) m i) ≡ sum_of ls (hears (bears n x p) m i)
 
-module _ (n : ℕ) (x p us vs ws : List ℕ) (m : ℕ) where
-  pub heard_start : (s : List ℕ) → length s ≡ 256 → ((i : ℕ) → get_or s i 0 ≡ 0) → HeardSoFar n x p us vs ws m 0 s
-  heard_start s e z = record {
-    size = e;
-    small = λ i. omega (arith, z i);
-    so_far = λ i a b. rw (z i) (summed_start us vs ws (hears (bears n x p) m i));
-  }
+module _ (n : ℕ) (x p : List ℕ) (ls : List Link) (m : ℕ) where
+  pub heard_start : (s : List ℕ) → length s ≡ 256 → ((i : ℕ) → get_or s i 0 ≡ 0) → HeardBut n x p ls m ls 0 s
+  heard_start s e z = record { size = e; small = λ i. omega (arith, z i); so_far = λ i a b. omega (arith, z i) }
 
-  -- the same in the words of the contracts: the sums and what is heard of the links from k on make up the whole
-  module _ (k : ℕ) (h : k ≤ length us) (s : List ℕ) where
-    left_heard : (i : ℕ) → sum_from us vs ws (hears (bears n x p) m i) k ≡ heard (links_from us vs ws k (length us - k)) (bears n x p) m i
-    unfolding heard hears
-    left_heard i = sum_left us vs ws (hears (bears n x p) m i) (length us - k) k (omega arith)
-
-    all_heard : (i : ℕ) → sum_of (links_of us vs ws) (hears (bears n x p) m i) ≡ heard (links_of us vs ws) (bears n x p) m i
-    unfolding heard hears
-    all_heard i = refl
-
-    pub heard_left : HeardSoFar n x p us vs ws m k s → (i : ℕ) → 1 ≤ i → i ≤ n → get_or s i 0 + heard (links_from us vs ws k (length us - k)) (bears n x p) m i ≡ heard (links_of us vs ws) (bears n x p) m i
-    heard_left g i a b = omega (arith, (g.so_far i a b).whole, left_heard i, all_heard i)
-
-    pub heard_from : length s ≡ 256 → ((i : ℕ) → get_or s i 0 ≤ 65535 * k) → ((i : ℕ) → 1 ≤ i → i ≤ n → get_or s i 0 + heard (links_from us vs ws k (length us - k)) (bears n x p) m i ≡ heard (links_of us vs ws) (bears n x p) m i) → HeardSoFar n x p us vs ws m k s
-    heard_from e l w = record { size = e; small = l; so_far = λ i a b. record { whole = omega (arith, w i a b, left_heard i, all_heard i) } }
-
-  pub heard_end : (k : ℕ) (s : List ℕ) → HeardSoFar n x p us vs ws m k s → length us ≤ k → (i : ℕ) → 1 ≤ i → i ≤ n → get_or s i 0 ≡ heard (links_of us vs ws) (bears n x p) m i
+  pub heard_end : (rest : List Link) (k : ℕ) (s : List ℕ) → HeardBut n x p ls m rest k s → ((i : ℕ) → sum_of rest (hears (bears n x p) m i) ≡ 0) → (i : ℕ) → 1 ≤ i → i ≤ n → get_or s i 0 ≡ heard ls (bears n x p) m i
   unfolding heard hears
-  heard_end k s g h i a b = summed_end us vs ws (hears (bears n x p) m i) k (get_or s i 0) (g.so_far i a b) h
+  heard_end rest k s g z i a b = omega (arith, g.so_far i a b, z i)
 
--- a turn: w added for each channel that the other end bears, where link k has an end m
-module _ (N n : ℕ) (x p us vs ws : List ℕ) (lent : WithChoices N n us vs ws) (bits : Assignment (N * n) x) (m k : ℕ) (h : k < length us) (s : List ℕ) (g : HeardSoFar n x p us vs ws m k s) where
-  -- what add_borne asks of the other end
-  pub heard_room : (e : ℕ) → 1 ≤ e → e ≤ N → (length s ≡ 256) × (n ≤ 16) × (1 ≤ e) × (e * n ≤ length x) × (get_or ws k 0 ≤ 65535) × Bits x × ((i : ℕ) → get_or s i 0 < 4294967296)
-  heard_room e a b = (
-    g.size,
-    lent.high,
-    a,
-    omega (arith, bits.size, mul-le-mul_right n b),
-    omega (arith, link_at N us vs ws lent.arrays k h),
-    bits.bits,
-    λ i. omega (arith, g.small i, arrays_few N us vs ws lent.arrays),
-  )
+-- a turn: the link l, which is the first of the rest
+module _ (N n : ℕ) (x p : List ℕ) (ls : List Link) (m : ℕ) (l : Link) (o : LinkOf N l) (rest : List Link) (k : ℕ) (few : k < 256) (s : List ℕ) (g : HeardBut n x p ls m (l ∷ rest) k s) where
+  -- what add_borne asks of the sums
+  pub link_room : (length s ≡ 256) × (l.weight ≤ 65535) × ((i : ℕ) → get_or s i 0 < 4294967296)
+  link_room = (g.size, o.weight_high, λ i. omega (arith, g.small i))
 
   module _ (t : List ℕ) where
     -- for an end whose channels are what m hears of the link
-    added : (e : ℕ) → BorneAdded n x p e (get_or ws k 0) s t → ((i : ℕ) → get_or ws k 0 * bears n x p e i ≡ hears (bears n x p) m i (link_in us vs ws k)) → HeardSoFar n x p us vs ws m (k + 1) t
+    added : (e : ℕ) → BorneAdded n x p e l.weight s t → ((i : ℕ) → l.weight * bears n x p e i ≡ hears (bears n x p) m i l) → HeardBut n x p ls m rest (k + 1) t
+    unfolding sum_of
     added e b d = record {
       size = b.0;
-      small = λ i. omega (arith, b.2 i, g.small i, link_at N us vs ws lent.arrays k h);
-      so_far = λ i y z. rw (b.1 i y z) (summed_turn us vs ws (hears (bears n x p) m i) k (get_or s i 0) (g.so_far i y z) (get_or ws k 0 * bears n x p e i) h (d i));
+      small = λ i. omega (arith, b.2 i, g.small i, o.weight_high);
+      so_far = λ i y z. omega (arith, b.1 i y z, g.so_far i y z, d i);
     }
 
     -- a link from m up, one from m down, and one of other meters
-    pub heard_up : get_or us k 0 ≡ m → BorneAdded n x p (get_or vs k 0) (get_or ws k 0) s t → HeardSoFar n x p us vs ws m (k + 1) t
-    unfolding link_in
-    heard_up e b = added (get_or vs k 0) b (λ i. hears_up (bears n x p) m i (link_in us vs ws k) (link_at N us vs ws lent.arrays k h).1 e)
+    pub heard_up : l.u ≡ m → BorneAdded n x p l.v l.weight s t → HeardBut n x p ls m rest (k + 1) t
+    heard_up e b = added l.v b (λ i. hears_up (bears n x p) m i l o.ordered e)
 
-    pub heard_down : (get_or us k 0 ≡ m → ⊥) → get_or vs k 0 ≡ m → BorneAdded n x p (get_or us k 0) (get_or ws k 0) s t → HeardSoFar n x p us vs ws m (k + 1) t
-    unfolding link_in
-    heard_down e d b = added (get_or us k 0) b (λ i. hears_down (bears n x p) m i (link_in us vs ws k) e d)
+    pub heard_down : (l.u ≡ m → ⊥) → l.v ≡ m → BorneAdded n x p l.u l.weight s t → HeardBut n x p ls m rest (k + 1) t
+    heard_down e d b = added l.u b (λ i. hears_down (bears n x p) m i l e d)
 
-  pub heard_none : (get_or us k 0 ≡ m → ⊥) → (get_or vs k 0 ≡ m → ⊥) → HeardSoFar n x p us vs ws m (k + 1) s
-  unfolding link_in
+  pub heard_none : (l.u ≡ m → ⊥) → (l.v ≡ m → ⊥) → HeardBut n x p ls m rest (k + 1) s
+  unfolding sum_of
   heard_none e d = record {
     size = g.size;
     small = λ i. omega (arith, g.small i);
-    so_far = λ i a b. summed_skip us vs ws (hears (bears n x p) m i) k (get_or s i 0) (g.so_far i a b) h (hears_none (bears n x p) m i (link_in us vs ws k) e d);
+    so_far = λ i a b. omega (arith, g.so_far i a b, hears_none (bears n x p) m i l e d);
   }
 
--- links with no end m add nothing
-module _ (N n : ℕ) (x p us vs ws : List ℕ) (lent : WithChoices N n us vs ws) (bits : Assignment (N * n) x) (m : ℕ) (s : List ℕ) (end : ℕ) (within : end ≤ length us) where
-  heard_over : (r k : ℕ) → r + k ≡ end → ((j : ℕ) → k ≤ j → j < end → (get_or us j 0 ≡ m → ⊥) × (get_or vs j 0 ≡ m → ⊥)) → HeardSoFar n x p us vs ws m k s → HeardSoFar n x p us vs ws m end s
-  heard_over zero k e other g = let d : k ≡ end = omega arith in rw (← d) g
-  heard_over (suc r) k e other g =
-      let t = other k (omega arith) (omega arith) in
-      heard_over r (k + 1) (omega arith) (λ j a b. other j (omega arith) b) (heard_none N n x p us vs ws lent bits m k (omega arith) s g t.0 t.1)
+-- nothing is heard of the links from k on where none has an end m
+rest_none : (b : ℕ → ℕ → ℕ) (m i : ℕ) (xs : List Link) (r k : ℕ) → r + k ≡ length xs → ((j : ℕ) → k ≤ j → j < length xs → ((link_in xs j).u ≡ m → ⊥) × ((link_in xs j).v ≡ m → ⊥)) → sum_of (drop k xs) (hears b m i) ≡ 0
+rest_none b m i xs zero k e h = sum_past (hears b m i) xs k (omega arith)
+rest_none b m i xs (suc r) k e h =
+    let t = h k (omega arith) (omega arith) in
+    omega (arith, sum_next (hears b m i) xs nothing k (omega arith), hears_none b m i (link_in xs k) t.0 t.1, rest_none b m i xs r (k + 1) (omega arith) (λ j a c. h j (omega arith) c))
 
-  -- from k on
-  pub heard_past : (k : ℕ) → k ≤ end → ((j : ℕ) → k ≤ j → j < end → (get_or us j 0 ≡ m → ⊥) × (get_or vs j 0 ≡ m → ⊥)) → HeardSoFar n x p us vs ws m k s → HeardSoFar n x p us vs ws m end s
-  heard_past k h = heard_over (end - k) k (omega arith)
+-- ---- the two loops of heard_at
 
--- from the first link of a higher meter on, none has an end m
-module _ (N n : ℕ) (x p us vs ws : List ℕ) (lent : WithChoices N n us vs ws) (bits : Assignment (N * n) x) (m : ℕ) (s : List ℕ) where
-  pub heard_stop : (k : ℕ) → HeardSoFar n x p us vs ws m k s → k < length us → m ≤ get_or us k 0 → (get_or us k 0 ≡ m → ⊥) → (i : ℕ) → 1 ≤ i → i ≤ n → get_or s i 0 ≡ heard (links_of us vs ws) (bears n x p) m i
-  heard_stop k g h low ne =
-      heard_end n x p us vs ws m (length us) s
-      (heard_past N n x p us vs ws lent bits m s (length us) (le_refl (length us)) k (omega arith)
-      (λ j a b. (λ d. omega (arith, ends_rise N us vs ws lent.arrays k j a b), λ d. omega (arith, ends_rise N us vs ws lent.arrays k j a b, link_at N us vs ws lent.arrays j b))) g)
-      (omega arith)
+-- the links of lower neighbours before k are done
+abbrev pub HeardLower : ℕ → List ℕ → List ℕ → List Link → ℕ → List Link → List Link → ℕ → List ℕ → Type 0
+HeardLower n x p ls m lower upper k s = HeardBut n x p ls m (drop k lower ++ upper) k s
+
+-- and all of these, and those of higher neighbours before k
+abbrev pub HeardUpper : ℕ → List ℕ → List ℕ → List Link → ℕ → List Link → ℕ → List ℕ → Type 0
+HeardUpper n x p ls m upper k s = HeardBut n x p ls m (drop k upper) (length ls - length upper + k) s
+
+module _ (N n : ℕ) (x p : List ℕ) (m : ℕ) (ls lower upper : List Link) (parts : Halves N m ls lower upper) where
+  pub lower_start : (s : List ℕ) → length s ≡ 256 → ((i : ℕ) → get_or s i 0 ≡ 0) → HeardLower n x p ls m lower upper 0 s
+  lower_start s e z = subst (λ (r : List Link). HeardBut n x p ls m r 0 s) (sym parts.whole) (heard_start n x p ls m s e z)
+
+  module _ (k : ℕ) (s : List ℕ) (g : HeardLower n x p ls m lower upper k s) where
+    module _ (h : k < length lower) where
+      lower_open : HeardBut n x p ls m (link_in lower k ∷ (drop (k + 1) lower ++ upper)) k s
+      lower_open = subst (λ (r : List Link). HeardBut n x p ls m r k s) (ap (λ (r : List Link). r ++ upper) (drop-cons lower k nothing h) ∙ rw add-one refl) g
+
+      pub lower_room : (length s ≡ 256) × ((link_in lower k).weight ≤ 65535) × ((i : ℕ) → get_or s i 0 < 4294967296)
+      lower_room = link_room N n x p ls m (link_in lower k) (lower_at N m ls lower upper parts k h).0 (drop (k + 1) lower ++ upper) k (omega (arith, parts.few, parts.sizes)) s lower_open
+
+      pub lower_meter : (1 ≤ (link_in lower k).u) × ((link_in lower k).u ≤ N)
+      lower_meter = let o = (lower_at N m ls lower upper parts k h).0 in (o.u_low, omega (arith, o.ordered, o.v_high))
+
+      other_end : (link_in lower k).u ≡ m → ⊥
+      other_end e = omega (arith, (lower_at N m ls lower upper parts k h).1)
+
+      pub lower_turn : (t : List ℕ) → (link_in lower k).v ≡ m → BorneAdded n x p (link_in lower k).u (link_in lower k).weight s t → HeardLower n x p ls m lower upper (k + 1) t
+      lower_turn t = heard_down N n x p ls m (link_in lower k) (lower_at N m ls lower upper parts k h).0 (drop (k + 1) lower ++ upper) k (omega (arith, parts.few, parts.sizes)) s lower_open t other_end
+
+      pub lower_skip : ((link_in lower k).v ≡ m → ⊥) → HeardLower n x p ls m lower upper (k + 1) s
+      lower_skip = heard_none N n x p ls m (link_in lower k) (lower_at N m ls lower upper parts k h).0 (drop (k + 1) lower ++ upper) k (omega (arith, parts.few, parts.sizes)) s lower_open other_end
+
+  module _ (k : ℕ) (s : List ℕ) (g : HeardUpper n x p ls m upper k s) where
+    module _ (h : k < length upper) where
+      upper_open : HeardBut n x p ls m (link_in upper k ∷ drop (k + 1) upper) (length ls - length upper + k) s
+      upper_open = subst (λ (r : List Link). HeardBut n x p ls m r (length ls - length upper + k) s) (drop-cons upper k nothing h ∙ rw add-one refl) g
+
+      pub upper_room : (length s ≡ 256) × ((link_in upper k).weight ≤ 65535) × ((i : ℕ) → get_or s i 0 < 4294967296)
+      upper_room = link_room N n x p ls m (link_in upper k) (upper_at N m ls lower upper parts k h).0 (drop (k + 1) upper) (length ls - length upper + k) (omega (arith, parts.few, parts.sizes)) s upper_open
+
+      pub upper_meter : (1 ≤ (link_in upper k).v) × ((link_in upper k).v ≤ N)
+      upper_meter = let o = (upper_at N m ls lower upper parts k h).0 in (omega (arith, o.u_low, o.ordered), o.v_high)
+
+      pub upper_turn : (t : List ℕ) → (link_in upper k).u ≡ m → BorneAdded n x p (link_in upper k).v (link_in upper k).weight s t → HeardUpper n x p ls m upper (k + 1) t
+      upper_turn t e b =
+          let q : length ls - length upper + (k + 1) ≡ length ls - length upper + k + 1 = omega arith in
+          rw q (heard_up N n x p ls m (link_in upper k) (upper_at N m ls lower upper parts k h).0 (drop (k + 1) upper) (length ls - length upper + k) (omega (arith, parts.few, parts.sizes)) s upper_open t e b)
+
+      -- from the first link of a higher meter on, none has an end m
+      pub upper_stop : ((link_in upper k).u ≡ m → ⊥) → (i : ℕ) → 1 ≤ i → i ≤ n → get_or s i 0 ≡ heard ls (bears n x p) m i
+      upper_stop ne =
+          heard_end n x p ls m (drop k upper) (length ls - length upper + k) s g
+          (λ i. rest_none (bears n x p) m i upper (length upper - k) k (omega arith) (λ j a b.
+          let past = upper_past N m ls lower upper parts k h ne j a b in
+          let o = (upper_at N m ls lower upper parts j b).0 in
+          (λ e. omega arith, λ e. omega (arith, o.ordered))))
+
+    pub upper_end : length upper ≤ k → k ≤ length upper → (i : ℕ) → 1 ≤ i → i ≤ n → get_or s i 0 ≡ heard ls (bears n x p) m i
+    upper_end a b = heard_end n x p ls m (drop k upper) (length ls - length upper + k) s g (λ i. sum_past (hears (bears n x p) m i) upper k (omega arith))
 
 -- ---- least_sum: the place of 1..i whose sum is least
 
@@ -190,18 +195,25 @@ module _ (sums : List ℕ) where
   unfolding least_of
   least_start = sym (least_at_one (λ j. get_or sums j 0))
 
-  module _ (best i : ℕ) (e : best ≡ least_of sums i) where
-    pub least_new : get_or sums (i + 1) 0 < get_or sums best 0 → i + 1 ≡ least_of sums (i + 1)
-    unfolding least_of
-    least_new = least_at_new (λ j. get_or sums j 0) i best e
+  -- the sum at the next place is less, or it is not; and at the end
+  module _ (best next : ℕ) (low : 1 ≤ next) (e : best ≡ least_of sums (next - 1)) where
+    here : next - 1 + 1 ≡ next
+    here = omega arith
 
-    pub least_old : get_or sums best 0 ≤ get_or sums (i + 1) 0 → best ≡ least_of sums (i + 1)
-    unfolding least_of
-    least_old = least_at_old (λ j. get_or sums j 0) i best e
+    more : next + 1 - 1 ≡ next
+    more = omega arith
 
-    pub least_end : (n : ℕ) → i ≡ n → best ≡ least_at n (λ j. get_or sums j 0)
+    pub least_new : get_or sums next 0 < get_or sums best 0 → next ≡ least_of sums (next + 1 - 1)
     unfolding least_of
-    least_end n d = rw (← d) e
+    least_new h = rw more (rw here at (least_at_new (λ j. get_or sums j 0) (next - 1) best e (rw here h)))
+
+    pub least_old : get_or sums best 0 ≤ get_or sums next 0 → best ≡ least_of sums (next + 1 - 1)
+    unfolding least_of
+    least_old h = rw more (rw here at (least_at_old (λ j. get_or sums j 0) (next - 1) best e (rw here h)))
+
+  pub least_end : (best i n : ℕ) → best ≡ least_of sums i → i ≡ n → best ≡ least_at n (λ j. get_or sums j 0)
+  unfolding least_of
+  least_end best i n e d = rw (← d) e
 
 -- ---- quietest_at: the channel with the least of the sums
 

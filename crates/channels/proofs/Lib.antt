@@ -7,6 +7,7 @@ pub mod Asking
 pub mod Demands
 pub mod Gathering
 pub mod Clashing
+pub mod Halves
 pub mod ClashRows
 pub mod Hearing
-pub mod Repairing
+pub mod Channel

@@ -7,8 +7,9 @@ use native.Mathlib.Omega.{arith}
 use native.Mathlib.Decide.{ℕ_discrete}
 use borrow.Author.Tests.{eq-eqb, ne_eqb}
 use Rattle.lists.specs.Sums.{sum_of}
-use Rattle.links.specs.Links.{Link, is_at}
-use Rattle.links.specs.Survey.{Survey}
+use Rattle.links.specs.Links.{is_at}
+use Rattle.links.specs.declared.Link.{Link}
+use Rattle.links.specs.Survey.{IsSurvey}
 use Rattle.links.proofs.Walk.{sum_bounded}
 use Rattle.channels.specs.Formula.{load}
 
@@ -46,7 +47,7 @@ unfolding load load_of
 load_sum ls m = refl
 
 -- at most 256 links of at most 65,535
-pub load_small : (N : ℕ) (ls : List Link) → Survey N ls → (m : ℕ) → load ls m ≤ 16776960
+pub load_small : (N : ℕ) (ls : List Link) → IsSurvey N ls → (m : ℕ) → load ls m ≤ 16776960
 load_small N ls s m = omega (arith, load_sum ls m, s.few, sum_bounded N ls s.each (load_of m) 65535 (λ l o. omega (arith, load_most l m, o.weight_high)))
 
 -- A is above every meter's load

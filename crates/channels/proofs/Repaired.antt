@@ -13,7 +13,8 @@ use borrow.Author.Tests.{eq-eqb, ne_eqb, le-leb, lt-leb}
 use Rattle.lists.specs.Tests.{all}
 use Rattle.lists.specs.Sums.{sum_to, sum_of, lowest, same, differ, nth}
 use Rattle.lists.proofs.Sums.{same_yes, same_no, same_le, same_sym, differ_yes, differ_no, sum_to_eq, sum_to_none, sum_to_term, sum_to_single, sum_to_same, lowest_ok, least_at_ok, nth_low, nth_top}
-use Rattle.links.specs.Links.{Link, link_ok}
+use Rattle.links.specs.Links.{link_ok}
+use Rattle.links.specs.declared.Link.{Link}
 use Rattle.links.proofs.Walk.{sum_equal}
 use Rattle.qubo.specs.Formula.{Bits, Assignment}
 use Rattle.onehot.specs.Choices.{bit_at, set_at, miss_squared, misses, code}

@@ -9,7 +9,7 @@ use native.Mathlib.Decide.{ℕ_discrete}
 use native.Mathlib.Nat.{le_refl, le_trans, le_of_eq, mul-le-mul_left, mul-le-mul, mul-add, mul-one, mul-zero, zero-mul, one-mul, mul_comm, one-le-mul}
 use Rattle.lists.specs.Sums.{sum_to, same, differ}
 use Rattle.lists.proofs.Sums.{same_yes, same_no, same_le, differ_yes, differ_no, sum_to_le, sum_to_eq, sum_to_change, sum_to_single, sum_to_same, sum_of_le, sum_of_add}
-use Rattle.links.specs.Links.{Link}
+use Rattle.links.specs.declared.Link.{Link}
 use Rattle.onehot.specs.Choices.{set_at, miss_squared, misses}
 use Rattle.channels.specs.Formula.{load, clashing_of}
 use Rattle.channels.proofs.Load.{load_of, load_u, load_v, load_sum}

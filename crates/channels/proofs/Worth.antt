@@ -6,7 +6,7 @@ use native.Mathlib.Omega.{arith}
 use native.Mathlib.Nat.{mul-le-mul}
 use lib.IntN.{pos, ◌+ℤ◌, +ℤ_idr, *ℤ-zero}
 use Rattle.lists.specs.Sums.{sum_to}
-use Rattle.links.specs.Links.{Link}
+use Rattle.links.specs.declared.Link.{Link}
 use Rattle.qubo.specs.Formula.{Term, term_value, value}
 use Rattle.qubo.specs.Table.{constant_of}
 use Rattle.qubo.specs.Terms.{pair}

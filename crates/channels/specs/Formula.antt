@@ -1,7 +1,8 @@
 -- Kind 1, channels, in document 01's order: limits and bit count, the penalty A, and the energy as a formula over bits. Assumes nothing.
 use Rattle.std.specs.Prelude.{ℕ, ◌+◌, ◌*◌, Bool, ◌&&◌, cond, List, ◌++◌, pos, leb}
 use Rattle.lists.specs.Sums.{sum_to, sum_of, greatest}
-use Rattle.links.specs.Links.{Link, is_at}
+use Rattle.links.specs.Links.{is_at}
+use Rattle.links.specs.declared.Link.{Link}
 use Rattle.qubo.specs.Formula.{Formula}
 use Rattle.qubo.specs.Terms.{each, over, pair}
 use Rattle.onehot.specs.Choices.{bit_number, one_hots}

@@ -1,6 +1,6 @@
 -- Kind 1, channels, gathered: what its table is made for. Assumes nothing.
 use Rattle.std.specs.Prelude.{ℕ, true, List}
-use Rattle.links.specs.Links.{Link}
+use Rattle.links.specs.declared.Link.{Link}
 use Rattle.qubo.specs.Instance.{Instance}
 use Rattle.channels.specs.Formula.{bit_count, formula}
 use Rattle.channels.specs.Plans.{is_plan, code_of, clash_weight}

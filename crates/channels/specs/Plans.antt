@@ -1,7 +1,7 @@
 -- Kind 1, channels: plans, their codes and their weight. Assumes nothing.
 use Rattle.std.specs.Prelude.{ℕ, ◌*◌, Bool, List}
 use Rattle.lists.specs.Sums.{sum_of, same, nth}
-use Rattle.links.specs.Links.{Link}
+use Rattle.links.specs.declared.Link.{Link}
 use Rattle.onehot.specs.Choices.{are_choices, code}
 
 -- "A plan is N bytes. Channels: 1..n each."

@@ -1,7 +1,7 @@
 -- Kind 1, channels: the plan that an assignment decodes to. "Channels are read meter by meter upward". Assumes nothing.
 use Rattle.std.specs.Prelude.{ℕ, zero, suc, ◌+◌, ◌*◌, cond, List, [], ◌∷◌, ◌++◌, length, eqb, leb}
 use Rattle.lists.specs.Sums.{sum_to, sum_of, least_at, lowest, same, differ, nth}
-use Rattle.links.specs.Links.{Link}
+use Rattle.links.specs.declared.Link.{Link}
 use Rattle.onehot.specs.Choices.{bit_at, set_at}
 
 -- ---- a meter with no bit set

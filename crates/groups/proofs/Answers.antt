@@ -1,36 +1,26 @@
--- Laws that the proofs of src/lib.rt cite: the sum of weights gives A, and the tests that the code makes decide what the definitions ask. Assumes nothing.
-use Prim.Native.Nat.{ℕ, ◌+◌, ◌*◌, ◌≤◌}
-use mathlib.Core.Path.{◌≡◌, refl, ◌∙◌}
+-- Laws that the proofs of src/problem.rt cite: the tests that the code makes decide what the definitions ask. Assumes nothing.
+use Prim.Native.Nat.{ℕ, ◌*◌, ◌≤◌}
+use mathlib.Core.Path.{◌≡◌, refl}
 use mathlib.Core.Logic.{◌↔◌}
 use mathlib.Core.Bool.{true, false}
 use mathlib.Core.List.{List}
-use native.Mathlib.Omega.{arith}
 use lib.Dec.{eqb}
 use lib.ListN.{length}
 use borrow.Author.Tests.{eq-eqb, eqb-true}
-use Rattle.lists.specs.Sums.{sum_of}
 use Rattle.lists.proofs.Tests.{and_left, same_test}
-use Rattle.links.specs.Links.{Link, links_of}
-use Rattle.links.proofs.Total.{total_weights}
+use Rattle.links.specs.declared.Link.{Link}
 use Rattle.qubo.specs.Formula.{Assignment}
 use Rattle.qubo.specs.Best.{CodesPlan}
 use Rattle.qubo.specs.Decoding.{answer_of, plan_after}
-use Rattle.qubo.specs.declared.Decoded.TheVariants.{Plan, NoPlan}
+use Rattle.std.specs.Prelude.{Some, None}
 use Rattle.qubo.proofs.Decoding.{codes_exactly, none_decoded, plan_decoded}
 use Rattle.onehot.specs.Choices.{bit_at, are_choices, candidate}
 use Rattle.groups.specs.Sizes.{spread, equally_large}
-use Rattle.groups.specs.Formula.{penalty, bracket}
+use Rattle.groups.specs.Formula.{bracket}
 use Rattle.groups.specs.Plans.{members_of, is_plan, code_of, cut_weight}
 use Rattle.groups.specs.Instance.{instance}
 use Rattle.groups.proofs.SizeLemma.{spread_level, large_level}
 use Rattle.groups.proofs.Bracket.{candidate_plan, bracket_exactly}
-
--- ---- penalty_of
-
--- s is the sum that the code adds up
-pub penalty_is : (us vs ws : List ℕ) (s : ℕ) → s ≡ sum_of ws (λ w. w) → length ws ≡ length us → 1 + 2 * s ≡ penalty (links_of us vs ws)
-unfolding penalty
-penalty_is us vs ws s e h = omega (arith, e ∙ total_weights us vs ws h)
 
 -- ---- is_plan
 
@@ -58,14 +48,14 @@ module _ (N m : ℕ) (p : List ℕ) where
   unfolding is_plan
   plan_choices e = and_left (are_choices N m p) _ e
 
--- ---- decode: the bracket, which is r, decides what bits decode to, whatever A is
+-- ---- decode: the bracket, which is r, decides what bits decode to
 
 module _ (N m : ℕ) (ls : List Link) (m1 : 1 ≤ m) (x : List ℕ) (a : Assignment (N * m) x) (r : ℕ) (is : r ≡ bracket N m (bit_at m x)) where
   zero_coded : (r ≡ 0) ↔ CodesPlan (is_plan N m) (code_of m) x
   zero_coded = rw is (bracket_exactly N m m1 x a)
 
-  pub none_read : (r ≡ 0 → ⊥) → (q : List ℕ) (A : ℕ) → (NoPlan ≡ answer_of (instance A N m ls) x) × (q ≡ plan_after (instance A N m ls) x q)
+  pub none_read : (r ≡ 0 → ⊥) → (q : List ℕ) (A : ℕ) → (None ≡ answer_of (instance A N m ls) x) × (q ≡ plan_after (instance A N m ls) x q)
   none_read n q A = none_decoded (instance A N m ls) x (codes_exactly (is_plan N m) (code_of m) (candidate N m) (candidate_plan N m) x) r zero_coded n q
 
-  pub plan_read : r ≡ 0 → (q p : List ℕ) (w : ℕ) → p ≡ candidate N m x → w ≡ cut_weight ls p → (A : ℕ) → (Plan w ≡ answer_of (instance A N m ls) x) × (p ≡ plan_after (instance A N m ls) x q)
-  plan_read z q p w e c A = plan_decoded (instance A N m ls) x (codes_exactly (is_plan N m) (code_of m) (candidate N m) (candidate_plan N m) x) r zero_coded z q p w e c
+  pub plan_read : r ≡ 0 → (q p : List ℕ) (w : ℕ) → p ≡ candidate N m x → w ≡ cut_weight ls p → (A : ℕ) → (Some (record { weight = w; repaired = 0 }) ≡ answer_of (instance A N m ls) x) × (p ≡ plan_after (instance A N m ls) x q)
+  plan_read z q p w e c A = plan_decoded (instance A N m ls) x (codes_exactly (is_plan N m) (code_of m) (candidate N m) (candidate_plan N m) x) r zero_coded z refl q p w e c

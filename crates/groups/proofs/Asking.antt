@@ -4,16 +4,17 @@ use mathlib.Core.Bool.{true}
 use mathlib.Core.Path.{◌≡◌}
 use mathlib.Core.List.{List}
 use lib.Dec.{leb}
-use lib.ListN.{length}
 use native.Mathlib.Omega.{arith}
 use borrow.Author.Tests.{leb-true}
 use Rattle.lists.proofs.Tests.{and_left, and_right}
-use Rattle.links.specs.Links.{Link, total}
-use Rattle.links.specs.Survey.{Survey, Arrays}
-use Rattle.links.proofs.Walk.{arrays_few}
+use Rattle.links.specs.Links.{total}
+use Rattle.links.specs.declared.Link.{Link}
+use Rattle.links.specs.Survey.{IsSurvey}
 use Rattle.links.proofs.Total.{total_small}
+use Rattle.links.proofs.Walk.{is_survey}
 use Rattle.onehot.specs.Inner.{WithChoices}
 use Rattle.groups.specs.Formula.{within_limits, penalty}
+use Rattle.groups.specs.declared.problem.Groups.{Groups}
 
 -- "m from 2 to 16", as the facts that are asked for: at least 1, and at most 16
 pub limit_low : (m : ℕ) → within_limits m ≡ true → 1 ≤ m
@@ -30,15 +31,10 @@ unfolding penalty
 penalty_heavy ls = omega arith
 
 -- and at most 33,553,921, far below the 2^32 that demand 2 allows
-pub penalty_small : (N : ℕ) (ls : List Link) → Survey N ls → penalty ls ≤ 33553921
+pub penalty_small : (N : ℕ) (ls : List Link) → IsSurvey N ls → penalty ls ≤ 33553921
 unfolding penalty
 penalty_small N ls s = omega (arith, total_small N ls s)
 
-module _ (N : ℕ) (us vs ws : List ℕ) (a : Arrays N us vs ws) where
-  -- `allows` and the arrays that site's read gives are all that is asked
-  pub lent : (m : ℕ) → within_limits m ≡ true → WithChoices N m us vs ws
-  lent m w = record { arrays = a; low = limit_low m w; high = limit_high m w }
-
-  -- `penalty_of` is lent at most 256 weights
-  pub weights_few : length ws ≤ 256
-  weights_few = omega (arith, a.same_w, arrays_few N us vs ws a)
+-- what the type of problems says, as a record
+pub lent : (g : Groups) → WithChoices g.survey.meters g.m g.survey.links.now
+lent g = record { survey = is_survey g.survey; low = g.low; high = g.high }

@@ -4,8 +4,8 @@ use mathlib.Core.List.{List, ◌++◌}
 use lib.IntN.{pos}
 use native.Mathlib.Omega.{arith}
 use native.Mathlib.Nat.{le_trans, mul-le-mul, mul-le-mul_right}
-use Rattle.links.specs.Links.{Link}
-use Rattle.links.specs.Survey.{LinkOf, Survey}
+use Rattle.links.specs.declared.Link.{Link}
+use Rattle.links.specs.Survey.{LinkOf, IsSurvey}
 use Rattle.qubo.specs.Norm.{formula_norm}
 use Rattle.qubo.specs.Terms.{each, unequal}
 use Rattle.qubo.proofs.Families.{norm_append, norm_each, norm_each_of}
@@ -31,7 +31,7 @@ sizes_small A N m a b c =
     (mul-le-mul {n₂ = 4294967296} {m₂ = 9216} c (mul-le-mul {n₂ = 96} {m₂ = 96} (omega arith) (omega arith)))))
 
 -- of what is cut
-pub cuts_small : (N m : ℕ) (ls : List Link) → Survey N ls → m ≤ 16 → formula_norm (cut_terms m ls) ≤ 1073725440
+pub cuts_small : (N m : ℕ) (ls : List Link) → IsSurvey N ls → m ≤ 16 → formula_norm (cut_terms m ls) ≤ 1073725440
 unfolding cut_terms
 cuts_small N m ls s h = le_trans (links_norm (link_cuts m) N (m * 262140) one ls s.each) (mul-le-mul {n₂ = 256} {m₂ = 4194240} s.few (omega arith))
   where
@@ -41,7 +41,7 @@ cuts_small N m ls s h = le_trans (links_norm (link_cuts m) N (m * 262140) one ls
         (λ g p q. omega (arith, o.weight_high, unequal_norm (pos l.weight) (bit_number m l.u g) (bit_number m l.v g)))
 
 -- of the whole
-pub formula_norm_fact : (A N m : ℕ) (ls : List Link) → Survey N ls → m ≤ 16 → A ≤ 2 ^ 32 → formula_norm (formula A N m ls) < 2 ^ 54
+pub formula_norm_fact : (A N m : ℕ) (ls : List Link) → IsSurvey N ls → m ≤ 16 → A ≤ 2 ^ 32 → formula_norm (formula A N m ls) < 2 ^ 54
 unfolding formula
 formula_norm_fact A N m ls s h a =
     omega (

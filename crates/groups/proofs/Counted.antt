@@ -1,8 +1,9 @@
 -- Laws that the proofs of src/sizes.rt cite: squared differences added up group by group, and sizes counted meter by meter. Assumes nothing.
-use Prim.Native.Nat.{ℕ, zero, suc, pred, ◌+◌, ◌*◌, ◌≤◌, ◌<◌}
-use mathlib.Core.Path.{◌≡◌, refl, sym, ap₂, ◌∙◌}
+use Prim.Native.Nat.{ℕ, zero, suc, pred, ◌+◌, ◌-◌, ◌*◌, ◌≤◌, ◌<◌}
+use mathlib.Core.Path.{◌≡◌, refl, sym, ap, ap₂, ◌∙◌}
 use mathlib.Core.List.{List}
-use lib.ListN.{length, get_or}
+use lib.ListN.{length, get_or, take, drop}
+use lib.Seq.{get_or-take, get_or-drop}
 use native.Mathlib.Omega.{arith}
 use native.Mathlib.Numerals.{add-one}
 use Rattle.lists.specs.Sums.{sum_to, same, gap, nth}
@@ -10,7 +11,7 @@ use Rattle.lists.proofs.Sums.{sum_to_zero, sum_to_next, sum_to_bits}
 use Rattle.qubo.specs.Formula.{Bits, Assignment}
 use Rattle.onehot.specs.Choices.{bit_at, misses}
 use Rattle.onehot.proofs.Counts.{count_le}
-use Rattle.onehot.proofs.Parts.{part_of, part_is, part_length, part_at, cut_small}
+use Rattle.onehot.proofs.Parts.{part_of, part_is, part_length, part_at}
 use Rattle.groups.specs.Sizes.{spread}
 use Rattle.groups.specs.Formula.{size_in, bracket}
 use Rattle.groups.specs.Plans.{members_of}
@@ -25,6 +26,10 @@ pub before_start : (sizes : List ℕ) (last : ℕ) → spread_before sizes last 
 unfolding spread_before
 before_start sizes last = sum_to_zero _
 
+-- the k-th of those behind place 0 is that of group k + 1
+pub before_at : (sizes : List ℕ) (h k : ℕ) → k < h - 1 → get_or (take (h - 1) (drop 1 sizes)) k 0 ≡ get_or sizes (k + 1) 0
+before_at sizes h k l = get_or-take (h - 1) (drop 1 sizes) k 0 l ∙ rw get_or-drop (ap (λ (j : ℕ). get_or sizes j 0) (omega arith))
+
 pub before_next : (sizes : List ℕ) (last g : ℕ) → 1 ≤ g → spread_before sizes last (g + 1) ≡ spread_before sizes last g + gap (get_or sizes g 0) last * gap (get_or sizes g 0) last
 unfolding spread_before sum_to
 before_next sizes last zero h = absurd (omega arith)
@@ -34,23 +39,24 @@ pub before_end : (sizes : List ℕ) (h g sum : ℕ) → g ≡ h → sum ≡ spre
 unfolding spread_before
 before_end sizes h g sum e d = rw e at d
 
--- ---- spread_of: the sum over pairs of the groups 1..h
+-- ---- spread_of: the sum over pairs of the groups before h
 
 pub spread_to : List ℕ → ℕ → ℕ
-spread_to sizes h = spread h (λ g. get_or sizes g 0)
+spread_to sizes h = spread (pred h) (λ g. get_or sizes g 0)
 
-pub spread_start : (sizes : List ℕ) → spread_to sizes 0 ≡ 0
+pub spread_start : (sizes : List ℕ) → spread_to sizes 1 ≡ 0
 unfolding spread_to spread
 spread_start sizes = sum_to_zero _
 
--- group h + 1 is paired with those before it
-pub spread_next : (sizes : List ℕ) (h r : ℕ) → r ≡ sum_to (pred (h + 1)) (λ g. gap (get_or sizes g 0) (get_or sizes (h + 1) 0) * gap (get_or sizes g 0) (get_or sizes (h + 1) 0)) → spread_to sizes (h + 1) ≡ spread_to sizes h + r
+-- group h is paired with those before it
+pub spread_next : (sizes : List ℕ) (h r : ℕ) → 1 ≤ h → r ≡ sum_to (pred h) (λ g. gap (get_or sizes g 0) (get_or sizes h 0) * gap (get_or sizes g 0) (get_or sizes h 0)) → spread_to sizes (h + 1) ≡ spread_to sizes h + r
 unfolding spread_to spread sum_to
-spread_next sizes h r e = rw (e, add-one h) refl
+spread_next sizes zero r a e = absurd (omega arith)
+spread_next sizes (suc h) r a e = rw (e, add-one (suc h)) refl
 
-pub spread_end : (sizes : List ℕ) (h m sum : ℕ) → h ≡ m → sum ≡ spread_to sizes h → sum ≡ spread m (λ g. get_or sizes g 0)
+pub spread_end : (sizes : List ℕ) (m h : ℕ) → h ≡ m + 1 → spread_to sizes h ≡ spread m (λ g. get_or sizes g 0)
 unfolding spread_to
-spread_end sizes h m sum e d = rw (← e) d
+spread_end sizes m h e = rw (e, add-one m) refl
 
 -- ---- gather_sizes: the bits of the meters up to v
 
@@ -74,10 +80,6 @@ module _ (N m : ℕ) (bits : List ℕ) (asg : Assignment (N * m) bits) (m16 : m 
   own_at : (g : ℕ) → 1 ≤ g → g ≤ m → nth (part_of m v bits) g ≡ bit_at m bits (v + 1) g
   own_at = part_at m N (v + 1) bits (part_of m v bits) (part_is m v bits) (omega arith) (omega arith) fits
 
-  -- what add_part asks of the part of meter v + 1
-  pub sizes_room : (length (part_of m v bits) < length s) × (1 ≤ 65535) × Bits (part_of m v bits) × ((g : ℕ) → 1 ≤ g → g ≤ length (part_of m v bits) → get_or s g 0 < 4294967296)
-  sizes_room = (omega (arith, own_length, i.size), omega arith, cut_small m N v bits below fits asg.bits, λ g a b. omega (arith, i.low g))
-
   -- its bits are added
   pub sizes_turn : (t : List ℕ) → (length t ≡ length s) × ((g : ℕ) → 1 ≤ g → g ≤ length (part_of m v bits) → get_or t g 0 ≡ get_or s g 0 + 1 * nth (part_of m v bits) g) × ((g : ℕ) → get_or t g 0 ≤ get_or s g 0 + 1) → SizesTo m bits (v + 1) t
   unfolding size_in
@@ -89,9 +91,6 @@ module _ (N m : ℕ) (bits : List ℕ) (asg : Assignment (N * m) bits) (m16 : m 
     where
       own : (g : ℕ) → bit_at m bits (v + 1) g ≡ bit_at m bits (suc v) g
       own g = rw (add-one v) refl
-
-pub sizes_end : (m : ℕ) (bits : List ℕ) (v N : ℕ) (sizes : List ℕ) → SizesTo m bits v sizes → v ≡ N → (g : ℕ) → 1 ≤ g → g ≤ m → get_or sizes g 0 ≡ size_in N (bit_at m bits) g
-sizes_end m bits v N sizes i e = rw e at i.so_far
 
 -- ---- bracket_of: from an array of zeros
 

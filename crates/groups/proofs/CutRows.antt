@@ -2,17 +2,17 @@
 use Prim.Native.Nat.{ℕ, zero, suc, ◌+◌, ◌-◌, ◌*◌, ◌/◌, ◌%◌, ◌^◌, ◌≤◌, ◌<◌}
 use mathlib.Core.Path.{◌≡◌, refl, sym, ap, ap₂, ◌∙◌}
 use mathlib.Core.List.{List, [], ◌∷◌}
-use lib.ListN.{length, get_or}
+use lib.ListN.{length}
 use lib.IntN.{ℤ, pos}
 use native.Mathlib.Omega.{arith}
 use mir.Syntax.{w64}
 use mir.Val.{to_z}
 use mir.Facts.{to_z_pos}
 use native.Mathlib.Nat.{add-mul, mod-lt, div-add-mod', mul-le-mul_right}
-use Rattle.links.specs.Links.{Link, link_in, links_of}
+use Rattle.links.specs.Links.{nothing, link_in}
+use Rattle.links.specs.declared.Link.{Link}
 use Rattle.links.specs.Survey.{LinkOf}
-use Rattle.links.proofs.Arrays.{arrays_at}
-use Rattle.links.proofs.Halving.{ends_rise}
+use Rattle.links.proofs.Halving.{lower_ends_rise}
 use Rattle.links.proofs.Walk.{link_at}
 use Rattle.qubo.specs.Formula.{Formula}
 use Rattle.qubo.specs.Norm.{formula_norm}
@@ -87,89 +87,83 @@ module _ (N m i : ℕ) (m1 : 1 ≤ m) (l : Link) (o : LinkOf N l) where
 -- ---- add_cuts, link by link
 
 -- the terms of the link at k
-abbrev cuts_at : ℕ → List ℕ → List ℕ → List ℕ → ℕ → Formula
-cuts_at m us vs ws k = link_cuts m (link_in us vs ws k)
+abbrev cuts_at : ℕ → List Link → ℕ → Formula
+cuts_at m ls k = link_cuts m (link_in ls k)
 
 -- the links before k are added to the row
-abbrev pub Added : ℕ → ℕ → List ℕ → List ℕ → List ℕ → List ℤ → List ℤ → ℕ → Type 0
-Added m i us vs ws row₀ row k = Walked (2 ^ 61) (left (link_cuts m) us vs ws) (length us) i row₀ row k
+abbrev pub Added : ℕ → ℕ → List Link → List ℤ → List ℤ → ℕ → Type 0
+Added m i ls row₀ row k = Walked (2 ^ 61) (left (link_cuts m) ls) (length ls) i row₀ row k
 
-module _ (N m i : ℕ) (us vs ws : List ℕ) (lent : WithChoices N m us vs ws) where
+module _ (N m i : ℕ) (ls : List Link) (lent : WithChoices N m ls) where
   -- the link at k adds nothing where neither end is the meter of bit i
-  other_nothing : (k : ℕ) → k < length us → (get_or us k 0 ≡ i / m + 1 → ⊥) → (get_or vs k 0 ≡ i / m + 1 → ⊥) → (r : List ℤ) → add_terms (cuts_at m us vs ws k) i r ≡ r
-  unfolding link_in
-  other_nothing k h nu nv = link_nothing N m i lent.low (link_in us vs ws k) (arrays_at N us vs ws lent.arrays k h) nu nv
+  other_nothing : (k : ℕ) → k < length ls → ((link_in ls k).u ≡ i / m + 1 → ⊥) → ((link_in ls k).v ≡ i / m + 1 → ⊥) → (r : List ℤ) → add_terms (cuts_at m ls k) i r ≡ r
+  other_nothing k h nu nv = link_nothing N m i lent.low (link_in ls k) (link_at N ls lent.survey.each k h) nu nv
 
   -- where the lower end is that meter: the bit of the upper end
-  pub upper_inside : (k : ℕ) → k < length us → get_or us k 0 ≡ i / m + 1 → (1 ≤ (get_or vs k 0 - get_or us k 0) * m) × (i + (get_or vs k 0 - get_or us k 0) * m < N * m)
-  unfolding link_in
+  pub upper_inside : (k : ℕ) → k < length ls → (link_in ls k).u ≡ i / m + 1 → (1 ≤ ((link_in ls k).v - (link_in ls k).u) * m) × (i + ((link_in ls k).v - (link_in ls k).u) * m < N * m)
   upper_inside k h e =
-      let o = arrays_at N us vs ws lent.arrays k h in
-      (apart N m i lent.low (link_in us vs ws k) o, rw (sym e) at (higher_inside N m i (get_or vs k 0) lent.low (omega (arith, o.ordered)) o.v_high))
+      let o = link_at N ls lent.survey.each k h in
+      (apart N m i lent.low (link_in ls k) o, rw (sym e) at (higher_inside N m i ((link_in ls k).v) lent.low (omega (arith, o.ordered)) o.v_high))
 
   -- where the upper end is: the bit of the lower end
-  pub below_inside : (k : ℕ) → k < length us → get_or vs k 0 ≡ i / m + 1 → (1 ≤ (get_or vs k 0 - get_or us k 0) * m) × ((get_or vs k 0 - get_or us k 0) * m ≤ i)
-  unfolding link_in
+  pub below_inside : (k : ℕ) → k < length ls → (link_in ls k).v ≡ i / m + 1 → (1 ≤ ((link_in ls k).v - (link_in ls k).u) * m) × (((link_in ls k).v - (link_in ls k).u) * m ≤ i)
   below_inside k h e =
-      let o = arrays_at N us vs ws lent.arrays k h in
-      (apart N m i lent.low (link_in us vs ws k) o, lower_inside m i (get_or us k 0) (get_or vs k 0) o.u_low (omega (arith, o.ordered)) e)
+      let o = link_at N ls lent.survey.each k h in
+      (apart N m i lent.low (link_in ls k) o, lower_inside m i ((link_in ls k).u) ((link_in ls k).v) o.u_low (omega (arith, o.ordered)) e)
 
   module _ (row₀ : List ℤ) where
-    pub added_start : Room (2 ^ 61) (cut_terms m (links_of us vs ws)) row₀ → Added m i us vs ws row₀ row₀ 0
+    pub added_start : Room (2 ^ 61) (cut_terms m ls) row₀ → Added m i ls row₀ row₀ 0
     unfolding cut_terms
     added_start room =
-        walked_start _ (cuts_at m us vs ws) _ _ _ (left_next (link_cuts m) us vs ws) (left_none (link_cuts m) us vs ws) row₀ (rw (left_all (link_cuts m) us vs ws) room)
+        walked_start _ (cuts_at m ls) _ _ _ (left_next (link_cuts m) ls nothing) (left_none (link_cuts m) ls) row₀ (rw (left_all (link_cuts m) ls) room)
 
-    module _ (row : List ℤ) (k : ℕ) (w : Added m i us vs ws row₀ row k) where
-      pub added_all : length us ≤ k → row ≡ add_terms (cut_terms m (links_of us vs ws)) i row₀
+    module _ (row : List ℤ) (k : ℕ) (w : Added m i ls row₀ row k) where
+      pub added_all : length ls ≤ k → row ≡ add_terms (cut_terms m ls) i row₀
       unfolding cut_terms
       added_all h =
-          walked_end _ (cuts_at m us vs ws) _ _ _ (left_next (link_cuts m) us vs ws) (left_none (link_cuts m) us vs ws) row₀ row k h w
-          ∙ rw (left_all (link_cuts m) us vs ws) refl
+          walked_end _ (cuts_at m ls) _ _ _ (left_next (link_cuts m) ls nothing) (left_none (link_cuts m) ls) row₀ row k h w
+          ∙ rw (left_all (link_cuts m) ls) refl
 
-      module _ (h : k < length us) where
+      module _ (h : k < length ls) where
         -- from the first link of a higher meter on all have both ends above the meter of bit i
-        pub added_stop : i / m + 1 < get_or us k 0 → row ≡ add_terms (cut_terms m (links_of us vs ws)) i row₀
-        unfolding cut_terms link_in
+        pub added_stop : i / m + 1 < (link_in ls k).u → row ≡ add_terms (cut_terms m ls) i row₀
+        unfolding cut_terms
         added_stop high =
-            walked_stop _ (cuts_at m us vs ws) _ _ _ (left_next (link_cuts m) us vs ws) (left_none (link_cuts m) us vs ws) row₀ row k
-            (λ j g l. other_nothing j l (λ e. omega (arith, ends_rise N us vs ws lent.arrays k j g l)) (λ e. omega (arith, ends_rise N us vs ws lent.arrays k j g l, (arrays_at N us vs ws lent.arrays j l).ordered))) w
-            ∙ rw (left_all (link_cuts m) us vs ws) refl
+            walked_stop _ (cuts_at m ls) _ _ _ (left_next (link_cuts m) ls nothing) (left_none (link_cuts m) ls) row₀ row k
+            (λ j g l. other_nothing j l (λ e. omega (arith, lower_ends_rise ls lent.survey.rises k j nothing g l)) (λ e. omega (arith, lower_ends_rise ls lent.survey.rises k j nothing g l, (link_at N ls lent.survey.each j l).ordered))) w
+            ∙ rw (left_all (link_cuts m) ls) refl
 
         -- there is room for the link's term
-        pub term_room : (p q : ℕ) → Room (2 ^ 61) (unequal (pos (get_or ws k 0)) p q ∷ []) row
-        unfolding link_in
+        pub term_room : (p q : ℕ) → Room (2 ^ 61) (unequal (pos (link_in ls k).weight) p q ∷ []) row
         term_room p q =
-            let g : Room (2 ^ 61) (cuts_at m us vs ws k) row = walked_room _ (cuts_at m us vs ws) _ _ _ (left_next (link_cuts m) us vs ws) (left_none (link_cuts m) us vs ws) row₀ row k h w in
-            record { room = λ j. omega (arith, g.room j, term_norm_fact N m i lent.low (link_in us vs ws k) (arrays_at N us vs ws lent.arrays k h) p q) }
+            let g : Room (2 ^ 61) (cuts_at m ls k) row = walked_room _ (cuts_at m ls) _ _ _ (left_next (link_cuts m) ls nothing) (left_none (link_cuts m) ls) row₀ row k h w in
+            record { room = λ j. omega (arith, g.room j, term_norm_fact N m i lent.low (link_in ls k) (link_at N ls lent.survey.each k h) p q) }
 
         -- a turn: the lower end is the meter of bit i, or the upper end, or neither
-        turn : (next : List ℤ) → add_terms (cuts_at m us vs ws k) i row ≡ next → Added m i us vs ws row₀ next (k + 1)
-        turn next e = walked_turn _ (cuts_at m us vs ws) _ _ _ (left_next (link_cuts m) us vs ws) (left_none (link_cuts m) us vs ws) row₀ row k h w next e
+        turn : (next : List ℤ) → add_terms (cuts_at m ls k) i row ≡ next → Added m i ls row₀ next (k + 1)
+        turn next e = walked_turn _ (cuts_at m ls) _ _ _ (left_next (link_cuts m) ls nothing) (left_none (link_cuts m) ls) row₀ row k h w next e
 
-        pub added_up : get_or us k 0 ≡ i / m + 1 → (next : List ℤ) → next ≡ add_terms (unequal (pos (get_or ws k 0)) i (i + (get_or vs k 0 - get_or us k 0) * m) ∷ []) i row → Added m i us vs ws row₀ next (k + 1)
-        unfolding link_in
-        added_up e next a = turn next (link_up N m i lent.low (link_in us vs ws k) (arrays_at N us vs ws lent.arrays k h) e row ∙ sym a)
+        pub added_up : (link_in ls k).u ≡ i / m + 1 → (next : List ℤ) → next ≡ add_terms (unequal (pos (link_in ls k).weight) i (i + ((link_in ls k).v - (link_in ls k).u) * m) ∷ []) i row → Added m i ls row₀ next (k + 1)
+        added_up e next a = turn next (link_up N m i lent.low (link_in ls k) (link_at N ls lent.survey.each k h) e row ∙ sym a)
 
-        pub added_down : get_or vs k 0 ≡ i / m + 1 → (next : List ℤ) → next ≡ add_terms (unequal (pos (get_or ws k 0)) (i - (get_or vs k 0 - get_or us k 0) * m) i ∷ []) i row → Added m i us vs ws row₀ next (k + 1)
-        unfolding link_in
-        added_down e next a = turn next (link_down N m i lent.low (link_in us vs ws k) (arrays_at N us vs ws lent.arrays k h) e row ∙ sym a)
+        pub added_down : (link_in ls k).v ≡ i / m + 1 → (next : List ℤ) → next ≡ add_terms (unequal (pos (link_in ls k).weight) (i - ((link_in ls k).v - (link_in ls k).u) * m) i ∷ []) i row → Added m i ls row₀ next (k + 1)
+        added_down e next a = turn next (link_down N m i lent.low (link_in ls k) (link_at N ls lent.survey.each k h) e row ∙ sym a)
 
-        pub added_none : (get_or us k 0 ≡ i / m + 1 → ⊥) → (get_or vs k 0 ≡ i / m + 1 → ⊥) → Added m i us vs ws row₀ row (k + 1)
+        pub added_none : ((link_in ls k).u ≡ i / m + 1 → ⊥) → ((link_in ls k).v ≡ i / m + 1 → ⊥) → Added m i ls row₀ row (k + 1)
         added_none nu nv = turn row (other_nothing k h nu nv row)
 
         -- the same of the weight as the code has it, a signed number, and of a row that is the next one
-        weight_is : to_z w64 (get_or ws k 0) ≡ pos (get_or ws k 0)
-        weight_is = to_z_pos w64 (omega (arith, link_at N us vs ws lent.arrays k h))
+        weight_is : to_z w64 (link_in ls k).weight ≡ pos (link_in ls k).weight
+        weight_is = to_z_pos w64 (omega (arith, link_at N ls lent.survey.each k h))
 
-        pub weight_room : (p q : ℕ) → Room (2 ^ 61) (unequal (to_z w64 (get_or ws k 0)) p q ∷ []) row
+        pub weight_room : (p q : ℕ) → Room (2 ^ 61) (unequal (to_z w64 (link_in ls k).weight) p q ∷ []) row
         weight_room p q = rw weight_is (term_room p q)
 
-        pub kept_up : get_or us k 0 ≡ i / m + 1 → (kept next : List ℤ) → kept ≡ next → next ≡ add_terms (unequal (to_z w64 (get_or ws k 0)) i (i + (get_or vs k 0 - get_or us k 0) * m) ∷ []) i row → Added m i us vs ws row₀ kept (k + 1)
+        pub kept_up : (link_in ls k).u ≡ i / m + 1 → (kept next : List ℤ) → kept ≡ next → next ≡ add_terms (unequal (to_z w64 (link_in ls k).weight) i (i + ((link_in ls k).v - (link_in ls k).u) * m) ∷ []) i row → Added m i ls row₀ kept (k + 1)
         kept_up e kept next d a = added_up e kept (d ∙ (rw weight_is at a))
 
-        pub kept_down : get_or vs k 0 ≡ i / m + 1 → (kept next : List ℤ) → kept ≡ next → next ≡ add_terms (unequal (to_z w64 (get_or ws k 0)) (i - (get_or vs k 0 - get_or us k 0) * m) i ∷ []) i row → Added m i us vs ws row₀ kept (k + 1)
+        pub kept_down : (link_in ls k).v ≡ i / m + 1 → (kept next : List ℤ) → kept ≡ next → next ≡ add_terms (unequal (to_z w64 (link_in ls k).weight) (i - ((link_in ls k).v - (link_in ls k).u) * m) i ∷ []) i row → Added m i ls row₀ kept (k + 1)
         kept_down e kept next d a = added_down e kept (d ∙ (rw weight_is at a))
 
-        pub kept_none : (get_or us k 0 ≡ i / m + 1 → ⊥) → (get_or vs k 0 ≡ i / m + 1 → ⊥) → (kept : List ℤ) → kept ≡ row → Added m i us vs ws row₀ kept (k + 1)
+        pub kept_none : ((link_in ls k).u ≡ i / m + 1 → ⊥) → ((link_in ls k).v ≡ i / m + 1 → ⊥) → (kept : List ℤ) → kept ≡ row → Added m i ls row₀ kept (k + 1)
         kept_none nu nv kept d = rw d (added_none nu nv)

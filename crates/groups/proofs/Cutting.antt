@@ -1,15 +1,14 @@
 -- Sums over the links: the cut weight of a plan, which is what is left of all weights, and what an assignment cuts. Assumes nothing.
-use Prim.Native.Nat.{ℕ, ◌+◌, ◌-◌, ◌*◌, ◌≤◌}
-use mathlib.Core.Path.{◌≡◌, refl, ◌∙◌}
+use Prim.Native.Nat.{ℕ, ◌+◌, ◌*◌, ◌≤◌}
+use mathlib.Core.Path.{◌≡◌, refl}
 use mathlib.Core.List.{List, [], ◌∷◌}
-use lib.ListN.{length}
 use native.Mathlib.Omega.{arith}
 use native.Mathlib.Decide.{ℕ_discrete}
 use native.Mathlib.Nat.{mul-one, mul-zero}
 use Rattle.lists.specs.Sums.{sum_of, same, differ, nth}
 use Rattle.lists.proofs.Sums.{same_yes, same_no, differ_yes, differ_no, differ_le}
-use Rattle.links.specs.Links.{Link, links_of, total}
-use Rattle.links.proofs.Total.{total_weights}
+use Rattle.links.specs.Links.{total}
+use Rattle.links.specs.declared.Link.{Link}
 use Rattle.onehot.specs.Choices.{bit_at, alike_weight}
 use Rattle.onehot.proofs.LinkSums.{bits_link}
 use Rattle.groups.specs.Plans.{cut_weight}
@@ -25,18 +24,10 @@ apart_or_alike w a b =
       | no n ↦ rw (differ_yes a b n, same_no a b n, mul-zero, mul-one) (omega arith)
     ]
 
-cut_rest : (ls : List Link) (p : List ℕ) → cut_weight ls p + alike_weight ls p ≡ total ls
+pub cut_rest : (ls : List Link) (p : List ℕ) → cut_weight ls p + alike_weight ls p ≡ total ls
 unfolding cut_weight alike_weight total sum_of
 cut_rest [] p = refl
 cut_rest (l ∷ ls) p = omega (arith, cut_rest ls p, apart_or_alike l.weight (nth p l.u) (nth p l.v))
-
--- all is the sum of weights that the code adds up
-module _ (us vs ws p : List ℕ) (even : length ws ≡ length us) (all alike : ℕ) (a : all ≡ sum_of ws (λ w. w)) (b : alike ≡ alike_weight (links_of us vs ws) p) where
-  pub cut_within : alike ≤ all
-  cut_within = omega (arith, a ∙ total_weights us vs ws even, b, cut_rest (links_of us vs ws) p)
-
-  pub cut_left : all - alike ≡ cut_weight (links_of us vs ws) p
-  cut_left = omega (arith, a ∙ total_weights us vs ws even, b, cut_rest (links_of us vs ws) p)
 
 -- ---- what an assignment cuts
 

@@ -5,8 +5,9 @@ use mathlib.Core.Logic.{◌↔◌}
 use mathlib.Core.Bool.{true}
 use mathlib.Core.List.{List}
 use native.Mathlib.Omega.{arith}
-use Rattle.links.specs.Links.{Link, total}
-use Rattle.links.specs.Survey.{Survey}
+use Rattle.links.specs.Links.{total}
+use Rattle.links.specs.declared.Link.{Link}
+use Rattle.links.specs.Survey.{IsSurvey}
 use Rattle.qubo.specs.Formula.{Assignment}
 use Rattle.qubo.specs.Best.{CodesPlan}
 use Rattle.qubo.proofs.TableBound.{table_bound}
@@ -24,7 +25,7 @@ use Rattle.groups.proofs.Bracket.{plan_split, code_assignment, candidate_plan, p
 use Rattle.groups.proofs.Twice.{cutting_twice, cut_total}
 use Rattle.groups.proofs.Dealt.{plan_exists}
 
-module _ (N m : ℕ) (ls : List Link) (s : Survey N ls) (w : within_limits m ≡ true) where
+module _ (N m : ℕ) (ls : List Link) (s : IsSurvey N ls) (w : within_limits m ≡ true) where
   -- "with N not divisible by m no plan exists", and else there is one
   pub exists_exactly : (N % m ≡ 0) ↔ ((p : List ℕ) × (is_plan N m p ≡ true))
   exists_exactly = plan_exists N m (limit_low m w)

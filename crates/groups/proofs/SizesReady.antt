@@ -17,7 +17,7 @@ use Rattle.qubo.proofs.RowAction.{add_top}
 use Rattle.qubo.proofs.RowTerms.{single_norm}
 use Rattle.qubo.proofs.RowShapes.{bits_times_norm}
 use Rattle.qubo.proofs.Runs.{run_below, run_same_top}
-use Rattle.qubo.proofs.Turns.{fits_less, less_abs, Parts, first_room, second_room, third_room}
+use Rattle.qubo.proofs.Turns.{fits_less, less_abs, Parts, second_room, third_room}
 use Rattle.onehot.proofs.Ends.{bits_most}
 use Rattle.onehot.proofs.Rows.{meter_inside}
 use Rattle.groups.specs.Formula.{size_terms}
@@ -98,9 +98,6 @@ module _ (A N m i : ℕ) (m1 : 1 ≤ m) (few : m ≤ 16) (meters : N ≤ 48) (sm
   own_below =
       let h = meter_inside N m i m1 inside in
       run_below own (N * m) m1 (omega (arith, div-add-mod' i m, mod-lt i m1, add-mul (i / m + 1) (N - (i / m + 1)) m, add-mul (i / m) 1 m, ap (λ (j : ℕ). j * m) (let e : N ≡ i / m + 1 + (N - (i / m + 1)) = omega arith in e))) (omega (arith, bits_most N m meters few))
-
-  pub first_ready : (i < i + length r) × Room (2 ^ 61) (single here i ∷ []) r
-  first_ready = (omega arith, first_room here less more i rest own r parts_room)
 
   module _ (s : List ℤ) (e : s ≡ add_terms (single here i ∷ []) i r) where
     pub second_ready : RunBelow rest (i + length s) × Room (2 ^ 61) (times less i (run_sum rest) ∷ []) s

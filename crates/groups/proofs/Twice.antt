@@ -7,8 +7,9 @@ use native.Mathlib.Decide.{ℕ_discrete}
 use native.Mathlib.Nat.{mul-one, mul-zero}
 use Rattle.lists.specs.Sums.{sum_to, same, differ, nth}
 use Rattle.lists.proofs.Sums.{same_yes, same_no, differ_yes, differ_no, differ_le, sum_to_eq, sum_to_add, sum_to_none, sum_to_single, sum_of_le, sum_of_times, times_bit}
-use Rattle.links.specs.Links.{Link, total}
-use Rattle.links.specs.Survey.{LinkOf, Survey}
+use Rattle.links.specs.Links.{total}
+use Rattle.links.specs.declared.Link.{Link}
+use Rattle.links.specs.Survey.{LinkOf, IsSurvey}
 use Rattle.links.proofs.Walk.{sum_equal}
 use Rattle.onehot.specs.Choices.{bit_at, code}
 use Rattle.onehot.proofs.Codes.{Choices, bit_code}
@@ -47,7 +48,7 @@ link_twice m w c d c1 cm d1 dm =
 
 -- ---- all links
 
-pub cutting_twice : (N m : ℕ) (ls : List Link) → Survey N ls → (p : List ℕ) → Choices N m p → cutting_of m ls (bit_at m (code m p)) ≡ 2 * cut_weight ls p
+pub cutting_twice : (N m : ℕ) (ls : List Link) → IsSurvey N ls → (p : List ℕ) → Choices N m p → cutting_of m ls (bit_at m (code m p)) ≡ 2 * cut_weight ls p
 unfolding cutting_of cut_weight
 cutting_twice N m ls s p ok =
     sum_equal N ls s.each (λ l. sum_to m (λ g. l.weight * differ (bit_at m (code m p) l.u g) (bit_at m (code m p) l.v g))) (λ l. 2 * (l.weight * differ (nth p l.u) (nth p l.v))) each

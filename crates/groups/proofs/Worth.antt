@@ -7,7 +7,7 @@ use native.Mathlib.Nat.{mul-le-mul, mul-add}
 use lib.IntN.{pos, ◌+ℤ◌, +ℤ_idr, *ℤ-zero}
 use Rattle.lists.specs.Sums.{sum_to, differ, gap}
 use Rattle.lists.proofs.Sums.{sum_to_eq, sum_to_times}
-use Rattle.links.specs.Links.{Link}
+use Rattle.links.specs.declared.Link.{Link}
 use Rattle.qubo.specs.Formula.{Bits, term_value, value}
 use Rattle.qubo.specs.Table.{term_constant, constant_of}
 use Rattle.qubo.specs.Terms.{each, unequal}

@@ -1,7 +1,8 @@
 -- Kind 2, groups, in document 01's order: limits and bit count, the penalty A, and the energy as a formula over bits. Assumes nothing.
 use Rattle.std.specs.Prelude.{ℕ, pred, ◌+◌, ◌*◌, Bool, ◌&&◌, List, ◌++◌, pos, leb}
 use Rattle.lists.specs.Sums.{sum_to, sum_of, differ}
-use Rattle.links.specs.Links.{Link, total}
+use Rattle.links.specs.Links.{total}
+use Rattle.links.specs.declared.Link.{Link}
 use Rattle.qubo.specs.Formula.{Term, Formula}
 use Rattle.qubo.specs.Terms.{each_of, each, over, unequal, squared_difference}
 use Rattle.onehot.specs.Choices.{bit_number, one_hots, misses}

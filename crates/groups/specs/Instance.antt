@@ -1,6 +1,6 @@
 -- Kind 2, groups, gathered: what its table is made for. Assumes nothing.
 use Rattle.std.specs.Prelude.{ℕ, List}
-use Rattle.links.specs.Links.{Link}
+use Rattle.links.specs.declared.Link.{Link}
 use Rattle.qubo.specs.Instance.{Instance}
 use Rattle.qubo.specs.Decoding.{codes_plan}
 use Rattle.onehot.specs.Choices.{candidate}

@@ -1,7 +1,7 @@
 -- Kind 2, groups: plans, their codes and their weight. Assumes nothing.
 use Rattle.std.specs.Prelude.{ℕ, ◌*◌, Bool, ◌&&◌, List}
 use Rattle.lists.specs.Sums.{sum_to, sum_of, same, differ, nth}
-use Rattle.links.specs.Links.{Link}
+use Rattle.links.specs.declared.Link.{Link}
 use Rattle.onehot.specs.Choices.{are_choices, code}
 use Rattle.groups.specs.Sizes.{equally_large}
 

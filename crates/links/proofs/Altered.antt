@@ -9,7 +9,8 @@ use borrow.Author.Tests.{le-leb, lt-ltb, eq-eqb, leb-true, ltb-true, eqb-true}
 use native.Mathlib.Omega.{arith}
 use Rattle.lists.specs.Tests.{every, all, any}
 use Rattle.lists.specs.Sums.{sum_of}
-use Rattle.links.specs.Links.{Link, link_ok, has_ends, before, ascending_from, ascending, present, weight_of, times_of, insert, delete}
+use Rattle.links.specs.Links.{link_ok, has_ends, before, ascending_from, ascending, present, weight_of, times_of, insert, delete}
+use Rattle.links.specs.declared.Link.{Link}
 use Rattle.links.specs.Survey.{LinkOf}
 use Rattle.lists.proofs.Tests.{and_left, and_right, and_both, or_left, or_right, every_at, all_head, all_tail, all_cons, all_member, same_test}
 use Rattle.links.proofs.Order.{Before, less, before_yes, before_true, before_trans, before_irrefl, before_else}

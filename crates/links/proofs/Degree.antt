@@ -7,8 +7,9 @@ use lib.Dec.{leb, eqb}
 use borrow.Author.Tests.{lt-ltb, le-ltb, le-leb, ne_eqb, eqb-true, leb-true}
 use native.Mathlib.Omega.{arith}
 use Rattle.lists.specs.Tests.{all, from}
-use Rattle.links.specs.Links.{Link, link_ok, has_ends, is_at, times_of, degree, low, high}
-use Rattle.links.specs.Survey.{LinkOf, Survey}
+use Rattle.links.specs.Links.{link_ok, has_ends, is_at, times_of, degree, low, high}
+use Rattle.links.specs.declared.Link.{Link}
+use Rattle.links.specs.Survey.{LinkOf, IsSurvey}
 use Rattle.lists.proofs.Tests.{Equal, equal, other, equal?, and_left, and_right, all_head, all_tail}
 use Rattle.links.proofs.Altered.{link_of, ends_yes, ends_no, ascending_once}
 
@@ -89,7 +90,7 @@ module _ (m : ℕ) where
       go (other q) f = omega (arith, h (low m a) (high m a), f (omega arith))
 
 -- a meter has fewer links than there are meters
-pub degree_bound : (N : ℕ) (ls : List Link) (m : ℕ) → Survey N ls → 1 ≤ m → m ≤ N → suc (degree m ls) ≤ N
+pub degree_bound : (N : ℕ) (ls : List Link) (m : ℕ) → IsSurvey N ls → 1 ≤ m → m ≤ N → suc (degree m ls) ≤ N
 degree_bound N ls m s l h = omega (arith, degree_total m N ls s.each, total_less m ls (λ a b. ascending_once ls a b s.rises) (times_self m N ls s.each) N 1 l (omega arith))
 
 -- what is no meter has no link
@@ -101,7 +102,7 @@ degree_out N (l ∷ ls) m e n =
     rw (ne_eqb l.u m (λ q. n (omega arith) (omega arith)), ne_eqb l.v m (λ q. n (omega arith) (omega arith)), degree_out N ls m (all_tail (link_ok N) l ls e) n)
 
 -- a meter has at most 47 links
-pub degree_few : (N : ℕ) (ls : List Link) (m : ℕ) → Survey N ls → degree m ls ≤ 47
+pub degree_few : (N : ℕ) (ls : List Link) (m : ℕ) → IsSurvey N ls → degree m ls ≤ 47
 degree_few N ls m s = go (leb 1 m && leb m N) refl
   where
     go : (t : Bool) → (leb 1 m && leb m N) ≡ t → degree m ls ≤ 47

@@ -1,14 +1,11 @@
--- The lower ends of a survey's links rise, so the links of a meter are found by halving. Assumes nothing.
-use Prim.Native.Nat.{ℕ, zero, suc, ◌+◌, ◌≤◌, ◌<◌}
-use mathlib.Core.Bool.{true}
-use mathlib.Core.Path.{◌≡◌, ap}
-use mathlib.Core.List.{List}
-use lib.ListN.{length, get_or}
-use native.Mathlib.Omega.{arith}
-use native.Mathlib.Decide.{ℕ_discrete}
-use Rattle.lists.proofs.Tests.{and_left, and_right}
-use Rattle.links.specs.Links.{before, ascending_from, ascending, link_in, links_from, links_of}
-use Rattle.links.specs.Survey.{Arrays, Rising}
+-- The lower ends of a survey's links rise, so where those below a meter end is found by halving. Assumes nothing.
+use Rattle.std.proofs.Common.{ℕ, zero, suc, ◌≤◌, ◌<◌, ◌≡◌, Bool, true, List, [], ◌∷◌, length, get_or, take, drop, arith, refl, subst}
+use Rattle.std.specs.List.Sorted.{IsNonDecreasingBy}
+use Rattle.std.proofs.lemmas.List.{get_or_default}
+use Rattle.lists.specs.Tests.{all}
+use Rattle.lists.proofs.Tests.{and_left, and_right, and_both}
+use Rattle.links.specs.Links.{before, ascending_from, ascending, link_in}
+use Rattle.links.specs.declared.Link.{Link}
 use Rattle.links.proofs.Order.{Before, less, tied, before_true}
 use Rattle.links.proofs.Altered.{rises_ascends}
 
@@ -19,62 +16,31 @@ before_low (less h) = omega arith
 before_low (tied e h) = omega arith
 
 -- links that rise from (a, b) on have lower ends of at least a
-from_low : (us vs ws : List ℕ) (n a b k t : ℕ) → ascending_from a b (links_from us vs ws k n) ≡ true → k ≤ t → t < k + n → a ≤ get_or us t 0
-unfolding links_from ascending_from link_in
-from_low us vs ws zero a b k t e p q = absurd (omega arith)
-from_low us vs ws (suc n) a b k t e p q =
-    let u = get_or us k 0 in
-    let v = get_or vs k 0 in
-    let h : a ≤ u = before_low (before_true a b u v (and_left (before a b u v) _ e)) in
-    elim (ℕ_discrete k t) [
-      | yes d ↦ omega (arith, ap (λ (j : ℕ). get_or us j 0) d)
-      | no d ↦ omega (arith, from_low us vs ws n u v (suc k) t (and_right (before a b u v) _ e) (omega arith) (omega arith))
-    ]
+from_low : (a b : ℕ) (ls : List Link) → ascending_from a b ls ≡ true → (k : ℕ) → k < length ls → a ≤ (link_in ls k).u
+unfolding ascending_from
+from_low a b [] e k h = absurd (omega arith)
+from_low a b (l ∷ ls) e zero h = before_low (before_true a b l.u l.v (and_left (before a b l.u l.v) _ e))
+from_low a b (l ∷ ls) e (suc k) h = omega (arith, from_low l.u l.v ls (and_right (before a b l.u l.v) _ e) k (omega arith), before_low (before_true a b l.u l.v (and_left (before a b l.u l.v) _ e)))
 
--- of links that rise, a later one has no lower end below an earlier one's
-from_rise : (us vs ws : List ℕ) (n k j t : ℕ) → ascending (links_from us vs ws k n) ≡ true → k ≤ j → j ≤ t → t < k + n → get_or us j 0 ≤ get_or us t 0
-unfolding links_from ascending link_in
-from_rise us vs ws zero k j t e p q h = absurd (omega arith)
-from_rise us vs ws (suc n) k j t e p q h =
-    elim (ℕ_discrete k j) [
-      | yes d ↦ elim (ℕ_discrete j t) [
-        | yes g ↦ omega (arith, ap (λ (i : ℕ). get_or us i 0) g)
-        | no g ↦ omega (arith, ap (λ (i : ℕ). get_or us i 0) d, from_low us vs ws n (get_or us k 0) (get_or vs k 0) (suc k) t e (omega arith) (omega arith))
-      ]
-      | no d ↦ from_rise us vs ws n (suc k) j t (rises_ascends (get_or us k 0) (get_or vs k 0) (links_from us vs ws (suc k) n) e) (omega arith) q (omega arith)
-    ]
+pub lower_ends_rise : (ls : List Link) → ascending ls ≡ true → IsNonDecreasingBy (λ l. l.u) ls
+unfolding ascending
+lower_ends_rise [] e i j d p q = absurd (omega arith)
+lower_ends_rise (l ∷ ls) e zero zero d p q = omega arith
+lower_ends_rise (l ∷ ls) e zero (suc j) d p q = subst (λ (x : Link). l.u ≤ x.u) (get_or_default ls j _ d (omega arith)) (from_low l.u l.v ls e j (omega arith))
+lower_ends_rise (l ∷ ls) e (suc i) zero d p q = absurd (omega arith)
+lower_ends_rise (l ∷ ls) e (suc i) (suc j) d p q = lower_ends_rise ls (rises_ascends l.u l.v ls e) i j d (omega arith) (omega arith)
 
-pub ends_rise : (N : ℕ) (us vs ws : List ℕ) → Arrays N us vs ws → Rising us
-unfolding links_of
-ends_rise N us vs ws a j k p q = from_rise us vs ws (length us) 0 j k a.survey.rises (omega arith) p (omega arith)
+-- ---- tests of a front and of the rest, from those of each entry
 
--- ---- first_link: below `low` the ends are less than m, from `high` on they are not
+pub all_front : (p : Link → Bool) (ls : List Link) (i : ℕ) → ((k : ℕ) (d : Link) → k < i → k < length ls → p (get_or ls k d) ≡ true) → all p (take i ls) ≡ true
+unfolding all
+all_front p ls zero h = refl
+all_front p [] (suc i) h = refl
+all_front p (l ∷ ls) (suc i) h = and_both (p l) _ (h 0 l (omega arith) (omega arith)) (all_front p ls i (λ k d a b. h (suc k) d (omega arith) (omega arith)))
 
-pub record Halved (us : List ℕ) (m low high : ℕ) : Type 0 where
-  pub ordered : low ≤ high
-  pub inside : high ≤ length us
-  pub lower : (k : ℕ) → k < low → get_or us k 0 < m
-  pub higher : (k : ℕ) → high ≤ k → k < length us → m ≤ get_or us k 0
-
--- at first nothing is known
-pub half_start : (us : List ℕ) (m : ℕ) → Halved us m 0 (length us)
-half_start us m = record { ordered = omega arith; inside = omega arith; lower = λ k h. absurd (omega arith); higher = λ k g h. absurd (omega arith) }
-
-module _ (us : List ℕ) (m low high mid : ℕ) (rise : Rising us) (h : Halved us m low high) (a : low ≤ mid) (b : mid < high) where
-  -- the end in the middle is less than m: so are all before it
-  pub half_up : get_or us mid 0 < m → Halved us m (mid + 1) high
-  half_up l = record {
-    ordered = omega arith;
-    inside = h.inside;
-    lower = λ k g. omega (arith, rise k mid (omega arith) (omega (arith, h.inside)));
-    higher = h.higher;
-  }
-
-  -- it is not: nor are those after it
-  pub half_down : m ≤ get_or us mid 0 → Halved us m low mid
-  half_down l = record {
-    ordered = a;
-    inside = omega (arith, h.inside);
-    lower = h.lower;
-    higher = λ k g q. omega (arith, rise mid k g q);
-  }
+pub all_rest : (p : Link → Bool) (ls : List Link) (i : ℕ) → ((k : ℕ) (d : Link) → i ≤ k → k < length ls → p (get_or ls k d) ≡ true) → all p (drop i ls) ≡ true
+unfolding all
+all_rest p [] zero h = refl
+all_rest p [] (suc i) h = refl
+all_rest p (l ∷ ls) zero h = and_both (p l) _ (h 0 l (omega arith) (omega arith)) (all_rest p ls zero (λ k d a b. h (suc k) d (omega arith) (omega arith)))
+all_rest p (l ∷ ls) (suc i) h = all_rest p ls i (λ k d a b. h (suc k) d (omega arith) (omega arith))

@@ -1,7 +1,6 @@
 pub mod Order
 pub mod Altered
 pub mod Degree
-pub mod Arrays
 pub mod Walk
 pub mod Total
 pub mod Halving

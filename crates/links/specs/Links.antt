@@ -1,15 +1,10 @@
 -- Links and lists of links, in the words of document 01's section on the site image. Assumes nothing.
-use Rattle.std.specs.Prelude.{ℕ, zero, suc, ◌+◌, Bool, true, ◌&&◌, ◌||◌, cond, List, [], ◌∷◌, map, length, get_or, leb, ltb, eqb}
+use Rattle.std.specs.Prelude.{ℕ, ◌+◌, Bool, true, ◌&&◌, ◌||◌, cond, List, [], ◌∷◌, get_or, leb, ltb, eqb}
 use Rattle.lists.specs.Tests.{every, some, any}
 use Rattle.lists.specs.Sums.{sum_of}
+use Rattle.links.specs.declared.Link.{Link}
 
 -- ---- one link
-
--- "end u, end v, weight"
-pub record Link : Type 0 where
-  pub u : ℕ
-  pub v : ℕ
-  pub weight : ℕ
 
 -- "1 ≤ u < v ≤ N and weight 1 to 65,535"
 unfoldable pub link_ok : ℕ → Link → Bool
@@ -40,6 +35,14 @@ ascending [] = true
 ascending (l ∷ ls) = ascending_from l.u l.v ls
 
 -- ---- what a list holds
+
+-- what is read where no link is
+abbrev pub nothing : Link
+nothing = record { u = 0; v = 0; weight = 0 }
+
+-- the link at index k, from 0
+abbrev pub link_in : List Link → ℕ → Link
+link_in ls k = get_or ls k nothing
 
 -- "that link is there"
 unfoldable pub present : ℕ → ℕ → List Link → Bool
@@ -89,30 +92,3 @@ low a b = cond (ltb a b) a b
 -- the higher one
 unfoldable pub high : ℕ → ℕ → ℕ
 high a b = cond (ltb a b) b a
-
--- ---- three arrays side by side: the ends u, the ends v and the weights
-
--- the first array of a list of links
-unfoldable pub ends_u : List Link → List ℕ
-ends_u ls = map (λ l. l.u) ls
-
--- the second
-unfoldable pub ends_v : List Link → List ℕ
-ends_v ls = map (λ l. l.v) ls
-
--- the third
-unfoldable pub weights : List Link → List ℕ
-weights ls = map (λ l. l.weight) ls
-
--- the link at index k
-unfoldable pub link_in : List ℕ → List ℕ → List ℕ → ℕ → Link
-link_in us vs ws k = record { u = get_or us k 0; v = get_or vs k 0; weight = get_or ws k 0 }
-
--- the n links from index k on
-unfoldable pub links_from : List ℕ → List ℕ → List ℕ → ℕ → ℕ → List Link
-links_from us vs ws k zero = []
-links_from us vs ws k (suc n) = link_in us vs ws k ∷ links_from us vs ws (suc k) n
-
--- all of them, as many as the first array is long
-unfoldable pub links_of : List ℕ → List ℕ → List ℕ → List Link
-links_of us vs ws = links_from us vs ws 0 (length us)

@@ -2,3 +2,4 @@ pub mod Tests
 pub mod Sums
 pub mod Members
 pub mod Stores
+pub mod Walks

@@ -1,106 +1,120 @@
-// The C interface: the public calls of `plans`, one function each, under the names of include/meterplan.h. A slice crosses as a pointer and a length; `meterplan_ask` of the header is `plans::Ask` itself, by value; an answer that is an enum crosses as a struct of its number and values. A refusal of 0 says that the result is there.
+// The C interface: the public calls of `plans`, one function each, under the names of include/meterplan.h. A slice crosses as a pointer and a length; `meterplan_ask` of the header is `plans::Ask` itself, by value; a result crosses as a number, or as a struct of its number and values. A refusal of 0 says that the result is there.
 #![tactic(auto)]
 
-ghost use Rattle.std.specs.Prelude.{◌≡◌, length, pos};
+ghost use Rattle.std.specs.Prelude.{◌≡◌, ℕ, ℤ, length, pos};
 ghost use Rattle.qubo.specs.Table.{constant_of};
 ghost use Rattle.qubo.specs.Instance.{energy_of};
+ghost use Rattle.site.specs.Refusal.{number_told};
 ghost use Rattle.site.specs.Edits.{begin_refusal, begin_image, add_refusal, add_image, remove_refusal, remove_image};
-ghost use Rattle.plans.specs.Answers.{number_refusal, number_value, NumberIs, decoded_refusal, decoded_weight, decoded_repaired, DecodedIs};
+ghost use Rattle.plans.specs.Answers.{answer as answer_of, told, NumberIs, DecodedIs};
 ghost use Rattle.plans.specs.Calls.{instance_in, accept_number_in, row_number_in, row_after_in, energy_number_in, code_number_in, code_after_in, decode_number_in, decode_after_in};
 
-use plans::{Ask, Decoded, Number};
+use plans::{Ask, Decoded, Refusal};
 
-// `meterplan_number` of the header: a number, 0 where it is refused.
+/// `meterplan_number` of the header: a number, 0 where it is refused.
 #[repr(C)]
-#[derive(Clone, Copy)]
+#[derive(Clone, Copy, Debug, PartialEq, Eq)]
 pub struct MeterplanNumber {
     pub refusal: u64,
     pub value: i64,
 }
 
-// `meterplan_decoded` of the header: the weight of the plan in the lent buffer and how many meters were repaired, both 0 where it is refused.
+/// `meterplan_decoded` of the header: the weight of the plan in the lent buffer and how many meters were repaired, both 0 where it is refused.
 #[repr(C)]
-#[derive(Clone, Copy)]
+#[derive(Clone, Copy, Debug, PartialEq, Eq)]
 pub struct MeterplanDecoded {
     pub refusal: u64,
     pub weight: u64,
     pub repaired: u64,
 }
 
-// Makes the image a new one of that many meters, with no links.
+// The number of a refusal, 0 for none.
+fn refusal_of(answer: Result<(), Refusal>) -> u64
+    ensures { result ≡ number_told answer }
+{
+    match answer {
+        Ok(()) => 0,
+        Err(refusal) => refusal.number(),
+    }
+}
+
+/// Makes the image a new one of that many meters, with no links.
 #[unsafe(no_mangle)]
 pub extern "C" fn meterplan_begin(image: &mut [u8], meters: u64) -> u64
     ensures value { result ≡ begin_refusal image.old meters }
     ensures image_after { image.new ≡ begin_image image.old meters }
 {
-    plans::begin(image, meters)
+    refusal_of(plans::begin(image, meters))
 }
 
-// Adds the link between u and v, either way round.
+/// Adds the link between u and v, either way round.
 #[unsafe(no_mangle)]
 pub extern "C" fn meterplan_add(image: &mut [u8], u: u64, v: u64, weight: u16) -> u64
     ensures value { result ≡ add_refusal image.old u v weight }
     ensures image_after { image.new ≡ add_image image.old u v weight }
 {
-    plans::add(image, u, v, weight)
+    refusal_of(plans::add(image, u, v, weight))
 }
 
-// Removes the link between u and v, either way round.
+/// Removes the link between u and v, either way round.
 #[unsafe(no_mangle)]
 pub extern "C" fn meterplan_remove(image: &mut [u8], u: u64, v: u64) -> u64
     ensures value { result ≡ remove_refusal image.old u v }
     ensures image_after { image.new ≡ remove_image image.old u v }
 {
-    plans::remove(image, u, v)
+    refusal_of(plans::remove(image, u, v))
 }
 
-// A number as a struct.
-fn number_of(answer: Number) -> MeterplanNumber
-    ensures { (result.refusal ≡ number_refusal answer) × (result.value ≡ number_value answer) }
+// A value as a struct.
+fn number_of(answer: Result<i64, Refusal>) -> MeterplanNumber
+    ensures { (r : ℕ) (z : ℤ) → told answer ≡ answer_of r z → NumberIs result.refusal result.value r z }
 {
     match answer {
-        Number::Value(value) => MeterplanNumber { refusal: 0, value },
-        Number::Refused(refusal) => MeterplanNumber { refusal, value: 0 },
+        Ok(value) => MeterplanNumber { refusal: 0, value },
+        Err(refusal) => MeterplanNumber {
+            refusal: refusal.number(),
+            value: 0,
+        },
     }
 }
 
 // A decoded plan as a struct.
-fn decoded_of(answer: Decoded) -> MeterplanDecoded
-    ensures { (result.refusal ≡ decoded_refusal answer) × (result.weight ≡ decoded_weight answer) × (result.repaired ≡ decoded_repaired answer) }
+fn decoded_of(answer: Result<Decoded, Refusal>) -> MeterplanDecoded
+    ensures { (r w k : ℕ) → told answer ≡ answer_of r (record { weight = w; repaired = k }) → DecodedIs result.refusal result.weight result.repaired r w k }
 {
     match answer {
-        Decoded::Plan { weight, repaired } => MeterplanDecoded {
+        Ok(Decoded { weight, repaired }) => MeterplanDecoded {
             refusal: 0,
             weight,
             repaired,
         },
-        Decoded::Refused(refusal) => MeterplanDecoded {
-            refusal,
+        Err(refusal) => MeterplanDecoded {
+            refusal: refusal.number(),
             weight: 0,
             repaired: 0,
         },
     }
 }
 
-// The number of bits.
+/// The number of bits.
 #[unsafe(no_mangle)]
 pub extern "C" fn meterplan_bits(image: &[u8], ask: Ask) -> MeterplanNumber
     ensures lent { image.exit.now ≡ image.entry.now }
     ensures number { NumberIs result.refusal result.value (accept_number_in image.now ask) (pos (instance_in image.now ask).bits) }
 {
-    number_of(plans::bit_count(image, ask))
+    number_of(plans::bit_count(image, ask).map(|bits| bits as i64))
 }
 
-// The penalty A.
+/// The penalty A.
 #[unsafe(no_mangle)]
 pub extern "C" fn meterplan_penalty(image: &[u8], ask: Ask) -> MeterplanNumber
     ensures lent { image.exit.now ≡ image.entry.now }
     ensures number { NumberIs result.refusal result.value (accept_number_in image.now ask) (pos (instance_in image.now ask).penalty) }
 {
-    number_of(plans::penalty(image, ask))
+    number_of(plans::penalty(image, ask).map(|penalty| penalty as i64))
 }
 
-// The constant of the table.
+/// The constant of the table.
 #[unsafe(no_mangle)]
 pub extern "C" fn meterplan_constant(image: &[u8], ask: Ask) -> MeterplanNumber
     ensures lent { image.exit.now ≡ image.entry.now }
@@ -109,17 +123,17 @@ pub extern "C" fn meterplan_constant(image: &[u8], ask: Ask) -> MeterplanNumber
     number_of(plans::constant(image, ask))
 }
 
-// Row i in front of the lent slice: bits - i numbers; the rest is unaltered.
+/// Row i in front of the lent slice: bits - i numbers; the rest is unaltered.
 #[unsafe(no_mangle)]
 pub extern "C" fn meterplan_row(image: &[u8], ask: Ask, i: u64, out: &mut [i64]) -> u64
     ensures lent { image.exit.now ≡ image.entry.now }
     ensures number { result ≡ row_number_in image.now ask i (length out.old) }
     ensures row { out.new ≡ row_after_in image.now ask i out.old }
 {
-    plans::fill_row(image, ask, i, out)
+    refusal_of(plans::fill_row(image, ask, i, out))
 }
 
-// The energy of an assignment.
+/// The energy of an assignment.
 #[unsafe(no_mangle)]
 pub extern "C" fn meterplan_energy(image: &[u8], ask: Ask, bits: &[u8]) -> MeterplanNumber
     ensures lent { (image.exit.now ≡ image.entry.now) × (bits.exit.now ≡ bits.entry.now) }
@@ -128,17 +142,17 @@ pub extern "C" fn meterplan_energy(image: &[u8], ask: Ask, bits: &[u8]) -> Meter
     number_of(plans::energy(image, ask, bits))
 }
 
-// The code of a plan, in the lent bits.
+/// The code of a plan, in the lent bits.
 #[unsafe(no_mangle)]
 pub extern "C" fn meterplan_code(image: &[u8], ask: Ask, plan: &[u8], bits: &mut [u8]) -> u64
     ensures lent { (image.exit.now ≡ image.entry.now) × (plan.exit.now ≡ plan.entry.now) }
     ensures number { result ≡ code_number_in image.now ask plan.now bits.old }
     ensures bits { bits.new ≡ code_after_in image.now ask plan.now bits.old }
 {
-    plans::encode(image, ask, plan, bits)
+    refusal_of(plans::encode(image, ask, plan, bits))
 }
 
-// The plan of an assignment, in the lent plan, its weight and how many meters were repaired.
+/// The plan of an assignment, in the lent plan, its weight and how many meters were repaired.
 #[unsafe(no_mangle)]
 pub extern "C" fn meterplan_decode(
     image: &[u8],

@@ -17,7 +17,7 @@ use Rattle.onehot.proofs.Rows.{bit_meter, meter_inside, part_run}
 use Rattle.onehot.proofs.Parts.{part_within}
 use Rattle.arcs.specs.Arcs.{arcs_end}
 use Rattle.arcs.proofs.RowRoom.{room_for}
-use Rattle.arcs.proofs.Slices.{counts_few}
+use Rattle.neighbours.proofs.CountBits.{bits_few}
 use Rattle.neighbours.specs.Formula.{count_bit, count_terms}
 use Rattle.neighbours.specs.Inner.{count_start, TableRow}
 
@@ -46,32 +46,25 @@ term_absent A N D M d i v h =
     (one_hot_absent (pos A) (part_run d (count_start N D M d v)) i (run_lacks (part_run d (count_start N D M d v)) i
     (λ t l e. h (suc t) (omega arith) l (ap (λ (k : ℕ). count_start N D M d v + k) (sym (mul-one t)) ∙ e))))
 
--- ---- add_counts, where b is the first of the neighbour-count bits
+-- ---- add_counts
 
-module _ (A N D M d i : ℕ) (r : List ℤ) (b : ℕ) (is : b ≡ arcs_end N D M) where
+module _ (A N D M d i : ℕ) (r : List ℤ) where
   -- nothing is added to the row of a bit before them
-  pub counts_before : i < b → r ≡ add_terms (count_terms A N D M d) i r
+  pub counts_before : i < arcs_end N D M → r ≡ add_terms (count_terms A N D M d) i r
   unfolding count_terms
   counts_before h =
       sym (add_absent (count_terms A N D M d) i r (absent_each_of N (λ v. one_hot (pos A) d (count_bit N D M d v) ∷ []) i (λ v p q. term_absent A N D M d i v (λ j a c e. omega arith))))
 
-  module _ (behind : b ≤ i) (d1 : 1 ≤ d) (row : TableRow (2 ^ 59) N D M d A i r) where
-    after : arcs_end N D M ≤ i
-    after = omega arith
-
+  module _ (behind : arcs_end N D M ≤ i) (d1 : 1 ≤ d) (row : TableRow (2 ^ 59) N D M d A i r) where
     within : i < arcs_end N D M + N * d
     within = omega (arith, row.whole, row.own)
 
-    -- what count_meter asks, and its answer m
-    pub counts_short : N ≤ 48 → d ≤ 47 → b ≤ 13488 → i ≤ 2 ^ 32
-    counts_short n h low = omega (arith, within, counts_few N d n h)
-
-    module _ (m : ℕ) (meter : m ≡ (i - b) / d + 1) where
+    module _ (m : ℕ) (meter : m ≡ (i - arcs_end N D M) / d + 1) where
       meter_is : m ≡ suc ((i - arcs_end N D M) / d)
-      meter_is = meter ∙ rw (add-one, is) refl
+      meter_is = meter ∙ rw add-one refl
 
       pub meter_high : m ≤ N
-      meter_high = rw meter_is (count_inside N D M d i after d1 within)
+      meter_high = rw meter_is (count_inside N D M d i behind d1 within)
 
       -- where the bits of that meter start
       module _ (s : ℕ) (start : s ≡ count_start N D M d m) where
@@ -79,14 +72,14 @@ module _ (A N D M d i : ℕ) (r : List ℤ) (b : ℕ) (is : b ≡ arcs_end N D M
         unfolding count_terms
         counts_own =
             sym (add_only N (λ v. one_hot (pos A) d (count_bit N D M d v) ∷ []) m i r (omega arith) meter_high
-            (λ v p q ne. term_absent A N D M d i v (λ j a c e. ne (omega (arith, meter_is, count_meter N D M d i after v j p a c e))))
+            (λ v p q ne. term_absent A N D M d i v (λ j a c e. ne (omega (arith, meter_is, count_meter N D M d i behind v j p a c e))))
             ∙ ap (λ (t : Term). add_terms (t ∷ []) i r) (meter_term A N D M d m ∙ ap (λ (k : ℕ). run_one_hot (pos A) (part_run d k)) (sym start)))
 
-        pub counts_ready : N ≤ 48 → d ≤ 47 → b ≤ 13488 → RunBelow (part_run d s) (i + length r) × Room (2 ^ 61) (run_one_hot (pos A) (part_run d s) ∷ []) r
-        counts_ready n h low =
-            let f = part_within d ((i - arcs_end N D M) / d) N (count_inside N D M d i after d1 within) in
+        pub counts_ready : N ≤ 48 → D ≤ 24 → M ≤ 256 → d ≤ 47 → RunBelow (part_run d s) (i + length r) × Room (2 ^ 61) (run_one_hot (pos A) (part_run d s) ∷ []) r
+        counts_ready n deep l h =
+            let f = part_within d ((i - arcs_end N D M) / d) N (count_inside N D M d i behind d1 within) in
             let e : s ≡ arcs_end N D M + (i - arcs_end N D M) / d * d = start ∙ ap (count_start N D M d) meter_is in
-            let g = counts_few N d n h in
+            let g = bits_few N D M d n deep l h in
             let few : 1 + d ≤ 48 = omega arith in (
               record { apart = omega arith; inside = λ t l. omega (arith, row.whole); end = omega arith },
               room_for _ r row.small (omega (arith, one_hot_norm (pos A) d (λ t. s + pred t * 1), mul-le-mul row.penalty (mul-le-mul few few))),

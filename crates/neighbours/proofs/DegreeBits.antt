@@ -9,7 +9,7 @@ use native.Mathlib.Numerals.{add-one}
 use lib.Dec.{eqb}
 use lib.ListN.{length}
 use lib.IntN.{ℤ, pos, negsuc, ◌+ℤ◌, +ℤ_idl, +ℤ_idr}
-use Rattle.links.specs.Links.{Link}
+use Rattle.links.specs.declared.Link.{Link}
 use Rattle.qubo.specs.Table.{only, coef}
 use Rattle.qubo.specs.Terms.{over, bits}
 use Rattle.qubo.proofs.Families.{sum_each, sum_over, sum_each_none, sum_each_only, sum_over_each, coef_sum, coef_append, coef_bits}

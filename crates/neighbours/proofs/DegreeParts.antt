@@ -6,11 +6,13 @@ use mathlib.Core.List.{List, [], ◌∷◌, ◌++◌, append_assoc}
 use native.Mathlib.Omega.{arith}
 use native.Mathlib.Numerals.{add-one}
 use native.Mathlib.Nat.{mul-one, mul-le-mul, mul-le-mul_left, mul-le-mul_right, add-mul}
+use mir.Syntax.{w64}
+use mir.Val.{SFits}
 use lib.Dec.{eqb}
-use lib.ListN.{length, get_or}
+use lib.ListN.{length}
 use lib.IntN.{ℤ, pos, negsuc, nat_abs, ◌+ℤ◌, ◌-ℤ◌, ◌*ℤ◌, *ℤ-zero}
-use Rattle.links.specs.Survey.{Ends}
-use Rattle.links.proofs.Walk.{few_links}
+use Rattle.links.specs.Links.{is_at, link_in}
+use Rattle.links.specs.declared.Link.{Link}
 use Rattle.qubo.specs.Formula.{Formula}
 use Rattle.qubo.specs.Table.{only, coef}
 use Rattle.qubo.specs.Norm.{entries_norm, formula_norm}
@@ -25,9 +27,8 @@ use Rattle.qubo.proofs.RowTerms.{product_split, product_entry, product_scale, pr
 use Rattle.qubo.proofs.Runs.{run_lacks}
 use Rattle.qubo.proofs.RowShapes.{bits_times_norm}
 use Rattle.qubo.proofs.RowWalk.{Walked, walked_first, walked_room, walked_turn, walked_end}
-use Rattle.qubo.proofs.Turns.{less_abs}
-use Rattle.arcs.specs.Arcs.{Arc, arc_bit, arcs_end}
-use Rattle.arcs.specs.Inner.{arcs_between}
+use Rattle.qubo.proofs.Turns.{less_abs, fits_abs}
+use Rattle.arcs.specs.Arcs.{Arc, arcs, arc_bit, arcs_end}
 use Rattle.arcs.proofs.ArcLists.{arc_up, arc_back, arcs_left, arcs_start, arcs_turn, arcs_end_fact}
 use Rattle.neighbours.specs.Formula.{touching}
 use Rattle.neighbours.specs.Inner.{numbered, link_run, link_part, Roomy}
@@ -53,9 +54,8 @@ module _ (q : ℤ) (i start d : ℕ) (row₀ : List ℤ) (d47 : d ≤ 47) (space
     pub numbered_size : length row ≡ length row₀
     numbered_size = ap length w.1 ∙ add_length (times q i (numbered t start) ∷ []) i row₀
 
-    -- the next number fits, and there is room for it
-    pub numbered_fits : t < d → nat_abs q * nat_abs (pos (t + 1)) < 2 ^ 63
-    numbered_fits h = omega (arith, mul-le-mul {n₂ = 4294967296} {m₂ = 47} space.factor (let g : t + 1 ≤ 47 = omega arith in g))
+    pub numbered_fits : t < d → SFits w64 (q *ℤ pos (t + 1))
+    numbered_fits h = fits_abs _ (omega (arith, nat_abs_*ℤ q (pos (t + 1)), mul-le-mul {n₂ = 4294967296} {m₂ = 47} space.factor (let g : t + 1 ≤ 47 = omega arith in g)))
 
     pub numbered_room : t < d → Room (2 ^ 61) (pair (q *ℤ pos (t + 1)) i (start + t) ∷ []) row
     numbered_room h = rw w.1 (record {
@@ -80,40 +80,37 @@ module _ (q : ℤ) (i start d : ℕ) (row₀ : List ℤ) (d47 : d ≤ 47) (space
             sym (product_entry q (pos (suc t)) (bit i) (start + t) i (add_terms (times q i (numbered t start) ∷ []) i row₀))
             ∙ sym (product_split q (bit i) (pos 0) (numbered t start) ((start + t, pos (suc t)) ∷ []) i row₀)
 
-    pub numbered_end : d ≤ t → row ≡ add_terms (times q i (numbered d start) ∷ []) i row₀
-    numbered_end h = let e : t ≡ d = omega arith in rw (← e) w.1
-
 -- ---- the two arcs of a link
 
-module _ (N D m : ℕ) (us vs ws : List ℕ) (k : ℕ) where
+module _ (N D m : ℕ) (ls : List Link) (k : ℕ) where
   abbrev u : ℕ
-  u = get_or us k 0
+  u = (link_in ls k).u
 
   abbrev v : ℕ
-  v = get_or vs k 0
+  v = (link_in ls k).v
 
   -- what they take off the form of meter m
   abbrev both : List (ℕ × ℤ)
-  both = touching N D m (arc_up us vs ws k) ++ touching N D m (arc_back us vs ws k)
+  both = touching N D m (arc_up ls k) ++ touching N D m (arc_back ls k)
 
   -- their bits, one after another
-  run_halves : (j : ℕ) → coef (run_sum (link_run N D k)) j ≡ coef (bits (pos 1) D (arc_bit N D (arc_up us vs ws k))) j +ℤ coef (bits (pos 1) D (arc_bit N D (arc_back us vs ws k))) j
+  run_halves : (j : ℕ) → coef (run_sum (link_run N D k)) j ≡ coef (bits (pos 1) D (arc_bit N D (arc_up ls k))) j +ℤ coef (bits (pos 1) D (arc_bit N D (arc_back ls k))) j
   run_halves j =
       coef_bits (pos 1) (2 * D) (run_bit (link_run N D k)) j
       ∙ ap (λ (c : ℕ). sum_each c f) (let e : 2 * D ≡ D + D = omega arith in e)
       ∙ sum_each_split D D f
       ∙ ap₂ ◌+ℤ◌
-      (sum_each_eq D f (λ t. only (arc_bit N D (arc_up us vs ws k) t) (pos 1) j) (λ t p q. ap (λ (s : ℕ). only s (pos 1) j) (first t)))
-      (sum_each_eq D (λ t. f (D + t)) (λ t. only (arc_bit N D (arc_back us vs ws k) t) (pos 1) j) (λ t p q. ap (λ (s : ℕ). only s (pos 1) j) (second t p)))
-      ∙ sym (ap₂ ◌+ℤ◌ (coef_bits (pos 1) D (arc_bit N D (arc_up us vs ws k)) j) (coef_bits (pos 1) D (arc_bit N D (arc_back us vs ws k)) j))
+      (sum_each_eq D f (λ t. only (arc_bit N D (arc_up ls k) t) (pos 1) j) (λ t p q. ap (λ (s : ℕ). only s (pos 1) j) (first t)))
+      (sum_each_eq D (λ t. f (D + t)) (λ t. only (arc_bit N D (arc_back ls k) t) (pos 1) j) (λ t p q. ap (λ (s : ℕ). only s (pos 1) j) (second t p)))
+      ∙ sym (ap₂ ◌+ℤ◌ (coef_bits (pos 1) D (arc_bit N D (arc_up ls k)) j) (coef_bits (pos 1) D (arc_bit N D (arc_back ls k)) j))
     where
       f : ℕ → ℤ
       f t = only (run_bit (link_run N D k) t) (pos 1) j
 
-      first : (t : ℕ) → run_bit (link_run N D k) t ≡ arc_bit N D (arc_up us vs ws k) t
+      first : (t : ℕ) → run_bit (link_run N D k) t ≡ arc_bit N D (arc_up ls k) t
       first t = ap (λ (s : ℕ). N * suc D + 2 * k * D + s) (mul-one (pred t))
 
-      second : (t : ℕ) → 1 ≤ t → run_bit (link_run N D k) (D + t) ≡ arc_bit N D (arc_back us vs ws k) t
+      second : (t : ℕ) → 1 ≤ t → run_bit (link_run N D k) (D + t) ≡ arc_bit N D (arc_back ls k) t
       second zero p = absurd (omega arith)
       second (suc t) p =
           let e : D + suc t ≡ suc (D + t) = omega arith in
@@ -128,14 +125,14 @@ module _ (N D m : ℕ) (us vs ws : List ℕ) (k : ℕ) where
   -- each of those bits has the coefficient -1 where the link has an end at m
   both_coef : (j : ℕ) → coef both j ≡ negsuc 0 *ℤ coef (cond (eqb u m || eqb v m) (run_sum (link_run N D k)) []) j
   both_coef j =
-      or_both (eqb u m) (eqb v m) (bits (negsuc 0) D (arc_bit N D (arc_up us vs ws k))) (bits (negsuc 0) D (arc_bit N D (arc_back us vs ws k))) j
+      or_both (eqb u m) (eqb v m) (bits (negsuc 0) D (arc_bit N D (arc_up ls k))) (bits (negsuc 0) D (arc_bit N D (arc_back ls k))) j
       ∙ go (eqb u m || eqb v m)
     where
       b₁ : ℕ → ℕ
-      b₁ = arc_bit N D (arc_up us vs ws k)
+      b₁ = arc_bit N D (arc_up ls k)
 
       b₂ : ℕ → ℕ
-      b₂ = arc_bit N D (arc_back us vs ws k)
+      b₂ = arc_bit N D (arc_back ls k)
 
       go : (t : Bool) → coef (cond t (bits (negsuc 0) D b₁ ++ bits (negsuc 0) D b₂) []) j ≡ negsuc 0 *ℤ coef (cond t (run_sum (link_run N D k)) []) j
       go true =
@@ -146,8 +143,8 @@ module _ (N D m : ℕ) (us vs ws : List ℕ) (k : ℕ) where
       go false = refl
 
   -- so q times both is -q times the link's part
-  both_added : (q : ℤ) (i : ℕ) (r : List ℤ) → add_terms (times q i both ∷ []) i r ≡ add_terms (link_part u v m (pos 0 -ℤ q) i (link_run N D k)) i r
-  unfolding link_part
+  both_added : (q : ℤ) (i : ℕ) (r : List ℤ) → add_terms (times q i both ∷ []) i r ≡ add_terms (link_part (link_in ls k) m (pos 0 -ℤ q) i (link_run N D k)) i r
+  unfolding link_part is_at
   both_added q i r =
       product_scale q (negsuc 0) (bit i) both (cond (eqb u m || eqb v m) (run_sum (link_run N D k)) []) both_coef i r
       ∙ ap (λ z. add_terms (times z i (cond (eqb u m || eqb v m) (run_sum (link_run N D k)) []) ∷ []) i r) (solve (var 0 ⊗ con (negsuc 0)) (con (pos 0) ⊖ var 0) tt (q ∷ []))
@@ -159,95 +156,92 @@ module _ (N D m : ℕ) (us vs ws : List ℕ) (k : ℕ) where
 
 -- ---- add_link: the link has an end at the meter, or none
 
-module _ (u v m : ℕ) (q : ℤ) (i : ℕ) (run : Run) where
-  pub part_yes : (eqb u m || eqb v m) ≡ true → link_part u v m q i run ≡ times q i (run_sum run) ∷ []
+module _ (l : Link) (m : ℕ) (q : ℤ) (i : ℕ) (run : Run) where
+  pub part_yes : is_at m l ≡ true → link_part l m q i run ≡ times q i (run_sum run) ∷ []
   unfolding link_part
   part_yes e = rw e refl
 
-  pub part_no : (eqb u m || eqb v m) ≡ false → link_part u v m q i run ≡ []
+  pub part_no : is_at m l ≡ false → link_part l m q i run ≡ []
   unfolding link_part
   part_no e = rw e refl
 
   -- a run below bit i: its pairs with bit i stand in the rows of its own bits
-  part_under : ((t : ℕ) → t < run.count → run.start + t * run.step < i) → (r : List ℤ) → add_terms (link_part u v m q i run) i r ≡ r
+  part_under : ((t : ℕ) → t < run.count → run.start + t * run.step < i) → (r : List ℤ) → add_terms (link_part l m q i run) i r ≡ r
   unfolding link_part
-  part_under h r = go (eqb u m || eqb v m)
+  part_under h r = go (is_at m l)
     where
       go : (t : Bool) → add_terms (cond t (times q i (run_sum run) ∷ []) []) i r ≡ r
-      go true = add_times q i (run_sum run) r ∙ plus_none r (λ k. q *ℤ coef (run_sum run) (i + k)) (λ k. ap (λ z. q *ℤ z) (run_lacks run (i + k) (λ t l e. omega (arith, h t l))) ∙ *ℤ-zero q)
+      go true = add_times q i (run_sum run) r ∙ plus_none r (λ k. q *ℤ coef (run_sum run) (i + k)) (λ k. ap (λ z. q *ℤ z) (run_lacks run (i + k) (λ t p e. omega (arith, h t p))) ∙ *ℤ-zero q)
       go false = add_none i r
 
 -- ---- add_touching: link by link
 
 -- the parts of n links from k on, with the factor q
-parts : ℕ → ℕ → ℕ → List ℕ → List ℕ → ℤ → ℕ → ℕ → ℕ → Formula
-parts N D m us vs q i k zero = []
-parts N D m us vs q i k (suc n) = link_part (get_or us k 0) (get_or vs k 0) m q i (link_run N D k) ++ parts N D m us vs q i (k + 1) n
+parts : ℕ → ℕ → ℕ → List Link → ℤ → ℕ → ℕ → ℕ → Formula
+parts N D m ls q i k zero = []
+parts N D m ls q i k (suc n) = link_part (link_in ls k) m q i (link_run N D k) ++ parts N D m ls q i (k + 1) n
 
 -- with -q they are what q times the arcs' bits adds
-parts_added : (N D m : ℕ) (us vs ws : List ℕ) (q : ℤ) (i n k : ℕ) → k + n ≡ length us → (r : List ℤ)
-    → add_terms (times q i (over (arcs_left us vs ws k) (touching N D m)) ∷ []) i r ≡ add_terms (parts N D m us vs (pos 0 -ℤ q) i k n) i r
+parts_added : (N D m : ℕ) (ls : List Link) (q : ℤ) (i n k : ℕ) → k + n ≡ length ls → (r : List ℤ)
+    → add_terms (times q i (over (arcs_left ls k) (touching N D m)) ∷ []) i r ≡ add_terms (parts N D m ls (pos 0 -ℤ q) i k n) i r
 unfolding parts
-parts_added N D m us vs ws q i zero k e r = rw (arcs_end_fact us vs ws k (omega arith)) (product_empty q (bit i) i r ∙ sym (add_none i r))
-parts_added N D m us vs ws q i (suc n) k e r =
-    let first = link_part (get_or us k 0) (get_or vs k 0) m (pos 0 -ℤ q) i (link_run N D k) in
-    let rest = over (arcs_left us vs ws (k + 1)) (touching N D m) in
-    ap (λ (l : List Arc). add_terms (times q i (over l (touching N D m)) ∷ []) i r) (arcs_turn us vs ws k (omega arith))
-    ∙ ap (λ (es : List (ℕ × ℤ)). add_terms (times q i es ∷ []) i r) (sym (append_assoc (touching N D m (arc_up us vs ws k)) (touching N D m (arc_back us vs ws k)) rest))
-    ∙ product_split q (bit i) (pos 0) (both N D m us vs ws k) rest i r
-    ∙ ap (add_terms (times q i rest ∷ []) i) (both_added N D m us vs ws k q i r)
-    ∙ parts_added N D m us vs ws q i n (k + 1) (omega arith) (add_terms first i r)
-    ∙ sym (add_append first (parts N D m us vs (pos 0 -ℤ q) i (k + 1) n) i r)
+parts_added N D m ls q i zero k e r = rw (arcs_end_fact ls k (omega arith)) (product_empty q (bit i) i r ∙ sym (add_none i r))
+parts_added N D m ls q i (suc n) k e r =
+    let first = link_part (link_in ls k) m (pos 0 -ℤ q) i (link_run N D k) in
+    let rest = over (arcs_left ls (k + 1)) (touching N D m) in
+    ap (λ (l : List Arc). add_terms (times q i (over l (touching N D m)) ∷ []) i r) (arcs_turn ls k (omega arith))
+    ∙ ap (λ (es : List (ℕ × ℤ)). add_terms (times q i es ∷ []) i r) (sym (append_assoc (touching N D m (arc_up ls k)) (touching N D m (arc_back ls k)) rest))
+    ∙ product_split q (bit i) (pos 0) (both N D m ls k) rest i r
+    ∙ ap (add_terms (times q i rest ∷ []) i) (both_added N D m ls k q i r)
+    ∙ parts_added N D m ls q i n (k + 1) (omega arith) (add_terms first i r)
+    ∙ sym (add_append first (parts N D m ls (pos 0 -ℤ q) i (k + 1) n) i r)
 
 -- their norm
-part_norm : (u v m : ℕ) (q : ℤ) (i : ℕ) (run : Run) → formula_norm (link_part u v m q i run) ≤ nat_abs q * run.count
+part_norm : (l : Link) (m : ℕ) (q : ℤ) (i : ℕ) (run : Run) → formula_norm (link_part l m q i run) ≤ nat_abs q * run.count
 unfolding link_part
-part_norm u v m q i run = go (eqb u m || eqb v m)
+part_norm l m q i run = go (is_at m l)
   where
     go : (t : Bool) → formula_norm (cond t (times q i (run_sum run) ∷ []) []) ≤ nat_abs q * run.count
     go true = omega (arith, bits_times_norm q i run.count (run_bit run))
     go false = omega arith
 
-parts_norm : (N D m : ℕ) (us vs : List ℕ) (q : ℤ) (i k n : ℕ) → formula_norm (parts N D m us vs q i k n) ≤ n * (nat_abs q * (2 * D))
+parts_norm : (N D m : ℕ) (ls : List Link) (q : ℤ) (i k n : ℕ) → formula_norm (parts N D m ls q i k n) ≤ n * (nat_abs q * (2 * D))
 unfolding parts
-parts_norm N D m us vs q i k zero = omega arith
-parts_norm N D m us vs q i k (suc n) =
+parts_norm N D m ls q i k zero = omega arith
+parts_norm N D m ls q i k (suc n) =
     omega (
       arith,
-      norm_append (link_part (get_or us k 0) (get_or vs k 0) m q i (link_run N D k)) (parts N D m us vs q i (k + 1) n),
-      part_norm (get_or us k 0) (get_or vs k 0) m q i (link_run N D k),
-      parts_norm N D m us vs q i (k + 1) n,
+      norm_append (link_part (link_in ls k) m q i (link_run N D k)) (parts N D m ls q i (k + 1) n),
+      part_norm (link_in ls k) m q i (link_run N D k),
+      parts_norm N D m ls q i (k + 1) n,
     )
 
 -- those of the links from k on
-pub parts_left : ℕ → ℕ → ℕ → ℕ → List ℕ → List ℕ → ℤ → ℕ → Formula
-parts_left N D m i us vs q k = parts N D m us vs q i k (length us - k)
+pub parts_left : ℕ → ℕ → ℕ → ℕ → List Link → ℤ → ℕ → Formula
+parts_left N D m i ls q k = parts N D m ls q i k (length ls - k)
 
 -- the bits of a link before n end at or before the first of link n
 link_within : (D k n : ℕ) → k < n → 2 * k * D + 2 * D ≤ 2 * n * D
 link_within D k n h = omega (arith, mul-le-mul_right D (let l : 2 * k + 2 ≤ 2 * n = omega arith in l), add-mul (2 * k) 2 D)
 
 -- the links before k are added to the row, with the factor q
-abbrev pub Touched : ℕ → ℕ → ℕ → ℕ → List ℕ → List ℕ → ℤ → List ℤ → List ℤ → ℕ → Type 0
-Touched N D m i us vs q row₀ row k = Walked (2 ^ 61) (parts_left N D m i us vs (pos 0 -ℤ q)) (length us) i row₀ row k
+abbrev pub Touched : ℕ → ℕ → ℕ → ℕ → List Link → ℤ → List ℤ → List ℤ → ℕ → Type 0
+Touched N D m i ls q row₀ row k = Walked (2 ^ 61) (parts_left N D m i ls (pos 0 -ℤ q)) (length ls) i row₀ row k
 
-module _ (N D m i : ℕ) (us vs : List ℕ) (ends : Ends N us vs) (deep : D ≤ 24) (q : ℤ) (row₀ : List ℤ) (space : Roomy q i row₀) where
-  few : length us ≤ 256
-  few = few_links N us vs ends
-
+module _ (N D m i : ℕ) (ls : List Link) (few : length ls ≤ 256) (deep : D ≤ 24) (q : ℤ) (row₀ : List ℤ) (space : Roomy q i row₀) where
   abbrev part_at : ℕ → Formula
-  part_at k = link_part (get_or us k 0) (get_or vs k 0) m (pos 0 -ℤ q) i (link_run N D k)
+  part_at k = link_part (link_in ls k) m (pos 0 -ℤ q) i (link_run N D k)
 
   abbrev left : ℕ → Formula
-  left k = parts_left N D m i us vs (pos 0 -ℤ q) k
+  left k = parts_left N D m i ls (pos 0 -ℤ q) k
 
-  left_next : (k : ℕ) → k < length us → left k ≡ part_at k ++ left (k + 1)
+  left_next : (k : ℕ) → k < length ls → left k ≡ part_at k ++ left (k + 1)
   unfolding parts_left parts
-  left_next k h = let e : length us - k ≡ suc (length us - (k + 1)) = omega arith in ap (λ (t : ℕ). parts N D m us vs (pos 0 -ℤ q) i k t) e
+  left_next k h = let e : length ls - k ≡ suc (length ls - (k + 1)) = omega arith in ap (λ (t : ℕ). parts N D m ls (pos 0 -ℤ q) i k t) e
 
-  left_none : left (length us) ≡ []
+  left_none : left (length ls) ≡ []
   unfolding parts_left parts
-  left_none = let e : length us - length us ≡ 0 = omega arith in ap (λ (t : ℕ). parts N D m us vs (pos 0 -ℤ q) i (length us) t) e
+  left_none = let e : length ls - length ls ≡ 0 = omega arith in ap (λ (t : ℕ). parts N D m ls (pos 0 -ℤ q) i (length ls) t) e
 
   all_room : Room (2 ^ 61) (left 0) row₀
   unfolding parts_left
@@ -255,38 +249,36 @@ module _ (N D m i : ℕ) (us vs : List ℕ) (ends : Ends N us vs) (deep : D ≤ 
     room = λ k. omega (
       arith,
       space.small k,
-      parts_norm N D m us vs (pos 0 -ℤ q) i 0 (length us - 0),
+      parts_norm N D m ls (pos 0 -ℤ q) i 0 (length ls - 0),
       less_abs q,
-      mul-le-mul {n₂ = 256} {m₂ = 206158430208} (let h : length us - 0 ≤ 256 = omega (arith, few) in h)
+      mul-le-mul {n₂ = 256} {m₂ = 206158430208} (let h : length ls - 0 ≤ 256 = omega (arith, few) in h)
           (mul-le-mul {n₂ = 4294967296} {m₂ = 48} (let h : nat_abs (pos 0 -ℤ q) ≤ 4294967296 = omega (arith, less_abs q, space.factor) in h) (let h : 2 * D ≤ 48 = omega arith in h)),
     );
   }
 
   -- the links before `from` add nothing, where their bits are below bit i
-  pub touched_start : (from : ℕ) → from ≤ length us → arcs_end N D from ≤ i → Touched N D m i us vs q row₀ row₀ from
+  pub touched_start : (from : ℕ) → from ≤ length ls → arcs_end N D from ≤ i → Touched N D m i ls q row₀ row₀ from
   touched_start from h under =
       walked_first _ part_at left _ _ left_next left_none row₀ from h
-      (λ k l r. part_under (get_or us k 0) (get_or vs k 0) m (pos 0 -ℤ q) i (link_run N D k) (λ t g. omega (arith, link_within D k from l)) r) all_room
+      (λ k l r. part_under (link_in ls k) m (pos 0 -ℤ q) i (link_run N D k) (λ t g. omega (arith, link_within D k from l)) r) all_room
 
-  module _ (row : List ℤ) (k : ℕ) (w : Touched N D m i us vs q row₀ row k) where
-    pub touched_end : length us ≤ k → row ≡ add_terms (times q i (over (arcs_between us vs) (touching N D m)) ∷ []) i row₀
+  module _ (row : List ℤ) (k : ℕ) (w : Touched N D m i ls q row₀ row k) where
+    pub touched_end : length ls ≤ k → row ≡ add_terms (times q i (over (arcs ls) (touching N D m)) ∷ []) i row₀
     unfolding parts_left
     touched_end h =
         walked_end _ part_at left _ _ left_next left_none row₀ row k h w
-        ∙ sym (rw (arcs_start us vs []) at (parts_added N D m us vs [] q i (length us - 0) 0 (omega arith) row₀))
+        ∙ sym (rw (arcs_start ls) at (parts_added N D m ls q i (length ls - 0) 0 (omega arith) row₀))
 
-    module _ (h : k < length us) where
+    module _ (h : k < length ls) where
       -- the next link's bits lie in the table, and there is room for its part
-      pub touched_ready : arcs_end N D (length us) ≤ i + length row₀ → (N ≤ 48) × (D ≤ 24) × (k ≤ 256) × RunBelow (link_run N D k) (i + length row) × Room (2 ^ 61) (part_at k) row
+      pub touched_ready : arcs_end N D (length ls) ≤ i + length row₀ → (k ≤ 256) × RunBelow (link_run N D k) (i + length row) × Room (2 ^ 61) (part_at k) row
       touched_ready top =
-          let g = link_within D k (length us) h in (
-            ends.arrays.survey.meters_high,
-            deep,
+          let g = link_within D k (length ls) h in (
             omega (arith, few),
             record { apart = omega arith; inside = λ t l. omega (arith, w.size); end = omega (arith, space.short) },
             walked_room _ part_at left _ _ left_next left_none row₀ row k h w,
           )
 
       -- a turn adds it
-      pub touched_turn : (next : List ℤ) → next ≡ add_terms (part_at k) i row → Touched N D m i us vs q row₀ next (k + 1)
+      pub touched_turn : (next : List ℤ) → next ≡ add_terms (part_at k) i row → Touched N D m i ls q row₀ next (k + 1)
       touched_turn next e = walked_turn _ part_at left _ _ left_next left_none row₀ row k h w next (sym e)

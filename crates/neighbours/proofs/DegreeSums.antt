@@ -10,9 +10,10 @@ use lib.Seq.{get_or-drop, take_all}
 use Rattle.lists.specs.Sums.{sum_to, same, gap, nth}
 use Rattle.lists.proofs.Sums.{sum_to_zero, sum_to_next, sum_to_eq, times_bit, same_le, same_one, nth_suc}
 use Rattle.lists.proofs.Stores.{added_same}
-use Rattle.links.specs.Links.{links_of}
-use Rattle.links.specs.Survey.{Ends}
-use Rattle.links.proofs.Walk.{ends_at, few_links}
+use Rattle.links.specs.Links.{link_in}
+use Rattle.links.specs.declared.Link.{Link}
+use Rattle.links.specs.Survey.{LinkOf, IsSurvey}
+use Rattle.links.proofs.Walk.{link_at}
 use Rattle.qubo.specs.Formula.{Bits, Assignment}
 use Rattle.onehot.specs.Choices.{bit_at, misses}
 use Rattle.onehot.proofs.Parts.{part_within}
@@ -20,7 +21,7 @@ use Rattle.arcs.specs.Arcs.{Arc, arcs, arcs_end, arc_at}
 use Rattle.arcs.specs.Inner.{Used}
 use Rattle.arcs.proofs.ArcLists.{arc_up, arc_back}
 use Rattle.arcs.proofs.ArcSums.{ArcsSummed, summed_start, summed_turn, summed_end}
-use Rattle.arcs.proofs.Slices.{slice, slice_length, slice_nth, slice_bits}
+use Rattle.arcs.proofs.Slices.{slice, slice_length, slice_nth}
 use Rattle.arcs.proofs.LinkBits.{set_halves}
 use Rattle.neighbours.specs.Formula.{count_at, touches_of, degree_gaps}
 use Rattle.neighbours.specs.Inner.{count_start}
@@ -39,9 +40,6 @@ module _ (N D M d b : ℕ) (is : b ≡ arcs_end N D M) (x : List ℕ) where
   counts_are : bit_at d (slice x b (length x)) ≡ count_at N D M d x
   counts_are = fun_ext (λ v. fun_ext (λ j. count_at_is v j))
 
-  pub counts_behind : Assignment (arcs_end N D M + N * d) x → (b ≤ length x) × Assignment (N * d) (slice x b (length x))
-  counts_behind a = (omega (arith, a.size), rw (tail_is x b) (record { size = rw length-drop (omega (arith, a.size)); bits = λ k. rw get_or-drop (a.bits (b + k)) }))
-
   pub misses_are : (r : ℕ) → r ≡ misses N d (bit_at d (slice x b (length x))) → r ≡ misses N d (count_at N D M d x)
   misses_are r e = e ∙ ap (misses N d) counts_are
 
@@ -52,14 +50,14 @@ abbrev touch_of : ℕ → ℕ → List ℕ → ℕ → Arc → ℕ
 touch_of N D x m a = (same a.parent m + same a.child m) * sum_to D (arc_at N D x a)
 
 -- in place m stands what their arcs give to meter m, whatever the bits are of which `used` are the counts; `low` leaves room to add
-pub record Gathered (used us vs : List ℕ) (k : ℕ) (sums : List ℕ) : Type 0 where
+pub record Gathered (used : List ℕ) (ls : List Link) (k : ℕ) (sums : List ℕ) : Type 0 where
   pub size : length sums ≡ 256
-  pub inside : k ≤ length us
+  pub inside : k ≤ length ls
   pub low : (m : ℕ) → get_or sums m 0 ≤ 48 * k
-  pub so_far : (N D : ℕ) (x ws : List ℕ) → Used N D (length us) x used → (m : ℕ) → ArcsSummed us vs ws (touch_of N D x m) k (get_or sums m 0)
+  pub so_far : (N D : ℕ) (x : List ℕ) → Used N D (length ls) x used → (m : ℕ) → ArcsSummed ls (touch_of N D x m) k (get_or sums m 0)
 
-pub gather_start : (used us vs sums : List ℕ) → length sums ≡ 256 → ((m : ℕ) → get_or sums m 0 ≡ 0) → Gathered used us vs 0 sums
-gather_start used us vs sums e z = record { size = e; inside = omega arith; low = λ m. omega (arith, z m); so_far = λ N D x ws u m. rw (z m) (summed_start us vs ws (touch_of N D x m)) }
+pub gather_start : (used : List ℕ) (ls : List Link) (sums : List ℕ) → length sums ≡ 256 → ((m : ℕ) → get_or sums m 0 ≡ 0) → Gathered used ls 0 sums
+gather_start used ls sums e z = record { size = e; inside = omega arith; low = λ m. omega (arith, z m); so_far = λ N D x u m. rw (z m) (summed_start ls (touch_of N D x m)) }
 
 -- both ends of a link get what its two arcs have
 share : (a b s t w : ℕ) → w ≡ s + t → w * a + w * b ≡ (a + b) * s + (b + a) * t
@@ -79,52 +77,55 @@ one_end u v m w h l =
         go (suc a) zero p q e f = omega arith
         go (suc a) (suc b) p q e f = absurd (omega (arith, e (omega arith), f (omega arith)))
 
-module _ (N : ℕ) (used us vs : List ℕ) (ends : Ends N us vs) (small : (k : ℕ) → get_or used k 0 ≤ 48) (k : ℕ) (h : k < length us) (s : List ℕ) (g : Gathered used us vs k s) where
+module _ (N : ℕ) (used : List ℕ) (ls : List Link) (survey : IsSurvey N ls) (small : (k : ℕ) → k < length ls → get_or used k 0 ≤ 48) (k : ℕ) (h : k < length ls) (s : List ℕ) (g : Gathered used ls k s) where
   abbrev w : ℕ
   w = get_or used k 0
 
-  few : length us ≤ 256
-  few = few_links N us vs ends
+  abbrev u : ℕ
+  u = (link_in ls k).u
+
+  abbrev v : ℕ
+  v = (link_in ls k).v
 
   within : (m : ℕ) → m ≤ N → m < length s
-  within m l = omega (arith, ends.arrays.survey.meters_high, g.size)
+  within m l = omega (arith, survey.meters_high, g.size)
 
-  link : (1 ≤ get_or us k 0) × (get_or us k 0 < get_or vs k 0) × (get_or vs k 0 ≤ N)
-  link = ends_at N us vs ends k h
+  link : LinkOf N (link_in ls k)
+  link = link_at N ls survey.each k h
 
-  pub first_ready : (get_or us k 0 < length s) × (get_or s (get_or us k 0) 0 < 4294967296) × (get_or used k 0 ≤ 48)
-  first_ready = (within (get_or us k 0) (omega (arith, link)), omega (arith, g.low (get_or us k 0), few), small k)
+  pub first_ready : ((link_in ls k).u < length s) × (get_or s (link_in ls k).u 0 < 4294967296) × (get_or used k 0 ≤ 48)
+  first_ready = (within u (omega (arith, link.ordered, link.v_high)), omega (arith, g.low u, survey.few), small k h)
 
-  module _ (t : List ℕ) (first : t ≡ set s (get_or us k 0) (get_or s (get_or us k 0) 0 + get_or used k 0)) where
-    first_at_fact : (m : ℕ) → get_or t m 0 ≡ get_or s m 0 + w * same (get_or us k 0) m
-    first_at_fact m = added_same s t (get_or us k 0) w first first_ready.0 m
+  module _ (t : List ℕ) (first : t ≡ set s (link_in ls k).u (get_or s (link_in ls k).u 0 + get_or used k 0)) where
+    first_at_fact : (m : ℕ) → get_or t m 0 ≡ get_or s m 0 + w * same u m
+    first_at_fact m = added_same s t u w first first_ready.0 m
 
-    pub second_ready : (get_or vs k 0 < length t) × (get_or t (get_or vs k 0) 0 < 4294967296) × (get_or used k 0 ≤ 48)
+    pub second_ready : ((link_in ls k).v < length t) × (get_or t (link_in ls k).v 0 < 4294967296) × (get_or used k 0 ≤ 48)
     second_ready = (
-      rw (first, length-set) (within (get_or vs k 0) link.2),
-      omega (arith, first_at_fact (get_or vs k 0), g.low (get_or vs k 0), few, small k, times_bit w (same (get_or us k 0) (get_or vs k 0)) (same_le (get_or us k 0) (get_or vs k 0))),
-      small k,
+      rw (first, length-set) (within v link.v_high),
+      omega (arith, first_at_fact v, g.low v, survey.few, small k h, times_bit w (same u v) (same_le u v)),
+      small k h,
     )
 
-    pub gather_turn : (q : List ℕ) → q ≡ set t (get_or vs k 0) (get_or t (get_or vs k 0) 0 + get_or used k 0) → Gathered used us vs (k + 1) q
+    pub gather_turn : (q : List ℕ) → q ≡ set t (link_in ls k).v (get_or t (link_in ls k).v 0 + get_or used k 0) → Gathered used ls (k + 1) q
     gather_turn q second = record {
       size = rw (second, length-set, first, length-set) g.size;
       inside = omega arith;
-      low = λ m. omega (arith, both m, g.low m, one_end (get_or us k 0) (get_or vs k 0) m w link.1 (small k));
-      so_far = λ N D x ws u m. rw (both m) (summed_turn us vs ws (touch_of N D x m) k (get_or s m 0) (g.so_far N D x ws u m) (w * same (get_or us k 0) m + w * same (get_or vs k 0) m) h
-          (share (same (get_or us k 0) m) (same (get_or vs k 0) m) (sum_to D (arc_at N D x (arc_up us vs ws k))) (sum_to D (arc_at N D x (arc_back us vs ws k))) w (u.each k h ∙ set_halves N D x us vs ws k)));
+      low = λ m. omega (arith, both m, g.low m, one_end u v m w link.ordered (small k h));
+      so_far = λ N D x c m. rw (both m) (summed_turn ls (touch_of N D x m) k (get_or s m 0) (g.so_far N D x c m) (w * same u m + w * same v m) h
+          (share (same u m) (same v m) (sum_to D (arc_at N D x (arc_up ls k))) (sum_to D (arc_at N D x (arc_back ls k))) w (c.each k h ∙ set_halves N D x ls k)));
     }
       where
-        both : (m : ℕ) → get_or q m 0 ≡ get_or s m 0 + (w * same (get_or us k 0) m + w * same (get_or vs k 0) m)
-        both m = omega (arith, first_at_fact m, added_same t q (get_or vs k 0) w second second_ready.0 m)
+        both : (m : ℕ) → get_or q m 0 ≡ get_or s m 0 + (w * same u m + w * same v m)
+        both m = omega (arith, first_at_fact m, added_same t q v w second second_ready.0 m)
 
-module _ (used us vs : List ℕ) (k : ℕ) (s : List ℕ) (g : Gathered used us vs k s) where
-  pub gather_end : length us ≤ k → (N D : ℕ) (x ws : List ℕ) → Used N D (length us) x used → (m : ℕ) → get_or s m 0 ≡ touches_of D (arcs (links_of us vs ws)) (arc_at N D x) m
+module _ (used : List ℕ) (ls : List Link) (k : ℕ) (s : List ℕ) (g : Gathered used ls k s) where
+  pub gather_end : length ls ≤ k → (N D : ℕ) (x : List ℕ) → Used N D (length ls) x used → (m : ℕ) → get_or s m 0 ≡ touches_of D (arcs ls) (arc_at N D x) m
   unfolding touches_of
-  gather_end h N D x ws u m = summed_end us vs ws (touch_of N D x m) k (get_or s m 0) (g.so_far N D x ws u m) h
+  gather_end h N D x u m = summed_end ls (touch_of N D x m) k (get_or s m 0) (g.so_far N D x u m) h
 
-  pub gather_low : (N : ℕ) → Ends N us vs → (m : ℕ) → get_or s m 0 ≤ 12288
-  gather_low N ends m = omega (arith, g.low m, g.inside, few_links N us vs ends)
+  pub gather_low : length ls ≤ 256 → (m : ℕ) → get_or s m 0 ≤ 12288
+  gather_low few m = omega (arith, g.low m, g.inside)
 
 -- ---- numbers_set: the sum of j over the first k bits set
 
@@ -172,9 +173,6 @@ module _ (N D M d : ℕ) (sums x : List ℕ) where
 
     own_length : length (slice x s (s + d)) ≡ d
     own_length = slice_length x s (s + d) d refl own_fits
-
-    pub own_ready : d ≤ 47 → Bits (slice x s (s + d)) × (length (slice x s (s + d)) ≤ 47)
-    own_ready h = (slice_bits x s (s + d) d refl own_fits asg.bits, omega (arith, own_length))
 
     own_counted : (c : ℕ) → c ≡ sum_to (length (slice x s (s + d))) (λ j. j * nth (slice x s (s + d)) j) → c ≡ sum_to d (λ j. j * count_at N D M d x (v + 1) j)
     unfolding count_at

@@ -6,8 +6,8 @@ use native.Mathlib.Omega.{arith}
 use native.Mathlib.Nat.{mul-le-mul}
 use lib.ListN.{length, get_or}
 use lib.IntN.{ℤ, pos, nat_abs, ◌-ℤ◌, ◌*ℤ◌}
-use Rattle.links.specs.Survey.{Ends}
-use Rattle.links.proofs.Walk.{few_links}
+use Rattle.links.specs.declared.Link.{Link}
+use Rattle.links.specs.Survey.{IsSurvey}
 use Rattle.qubo.specs.Table.{coef}
 use Rattle.qubo.specs.Terms.{over, sum, bit, single, times}
 use Rattle.qubo.specs.Rows.{add_terms, Room}
@@ -17,11 +17,10 @@ use Rattle.qubo.proofs.RowAction.{add_two, add_length, added_abs}
 use Rattle.qubo.proofs.RowTerms.{own, product_split, square_row, single_norm}
 use Rattle.qubo.proofs.Turns.{less_abs}
 use Rattle.onehot.proofs.Parts.{part_within}
-use Rattle.arcs.specs.Arcs.{Arc, arcs_end}
-use Rattle.arcs.specs.Inner.{arcs_between}
+use Rattle.arcs.specs.Arcs.{Arc, arcs, arcs_end}
 use Rattle.neighbours.specs.Formula.{touching, degree_term}
 use Rattle.neighbours.specs.Inner.{numbered, count_start, degree_entries, TableRow, Roomy}
-use Rattle.arcs.proofs.Slices.{bits_few}
+use Rattle.neighbours.proofs.CountBits.{bits_few}
 use Rattle.neighbours.proofs.DegreeParts.{numbered_small}
 
 -- the three parts
@@ -40,28 +39,19 @@ degree_row A N D M d ks m i c r e =
 -- ---- the numbers, with A ≤ 20,000,000 and |c| ≤ 47
 
 module _ (A : ℕ) (c : ℤ) (A-low : A ≤ 20000000) (c-low : nat_abs c ≤ 47) where
-  pub factor_fits : nat_abs (pos A) * nat_abs c < 2 ^ 63
-  factor_fits = omega (arith, mul-le-mul {n₂ = 20000000} {m₂ = 47} A-low c-low)
-
-  factor_low : nat_abs (pos A *ℤ c) ≤ 940000000
+  pub factor_low : nat_abs (pos A *ℤ c) ≤ 940000000
   factor_low = omega (arith, nat_abs_*ℤ (pos A) c, mul-le-mul {n₂ = 20000000} {m₂ = 47} A-low c-low)
-
-  pub twice_fits : nat_abs (pos 2) * nat_abs (pos A *ℤ c) < 2 ^ 63
-  twice_fits = omega (arith, factor_low)
 
   twice_low : nat_abs (pos 2 *ℤ (pos A *ℤ c)) ≤ 2 ^ 32
   twice_low = omega (arith, nat_abs_*ℤ (pos 2) (pos A *ℤ c), factor_low)
-
-  pub square_fits : nat_abs (pos A *ℤ c) * nat_abs c < 2 ^ 63
-  square_fits = omega (arith, mul-le-mul {n₂ = 940000000} {m₂ = 47} factor_low c-low)
 
   pub square_low : nat_abs (pos A *ℤ c *ℤ c) ≤ 2 ^ 36
   square_low = omega (arith, nat_abs_*ℤ (pos A *ℤ c) c, mul-le-mul {n₂ = 940000000} {m₂ = 47} factor_low c-low)
 
 -- ---- add_degree: bit i itself gets `here`, q is the factor of the others, and the meter's neighbour-count bits begin at `first`
 
-module _ (A N D d i m : ℕ) (us vs : List ℕ) (ends : Ends N us vs) (deep : D ≤ 24) (d47 : d ≤ 47) (m1 : 1 ≤ m) (mN : m ≤ N) (c : ℤ) (c-low : nat_abs c ≤ 47) (r : List ℤ) (row : TableRow (3 * 2 ^ 58) N D (length us) d A i r)
-    (here : ℤ) (here_is : here ≡ pos 0 -ℤ pos A *ℤ c *ℤ c) (q : ℤ) (q-is : q ≡ pos 2 *ℤ (pos A *ℤ c)) (first : ℕ) (first_is : first ≡ count_start N D (length us) d m) where
+module _ (A N D d i m : ℕ) (ls : List Link) (survey : IsSurvey N ls) (deep : D ≤ 24) (d47 : d ≤ 47) (m1 : 1 ≤ m) (mN : m ≤ N) (c : ℤ) (c-low : nat_abs c ≤ 47) (r : List ℤ) (row : TableRow (3 * 2 ^ 58) N D (length ls) d A i r)
+    (here : ℤ) (here_is : here ≡ pos 0 -ℤ pos A *ℤ c *ℤ c) (q : ℤ) (q-is : q ≡ pos 2 *ℤ (pos A *ℤ c)) (first : ℕ) (first_is : first ≡ count_start N D (length ls) d m) where
   here_low : nat_abs here ≤ 2 ^ 36
   here_low = rw here_is (omega (arith, less_abs (pos A *ℤ c *ℤ c), square_low A c row.penalty c-low))
 
@@ -71,13 +61,13 @@ module _ (A N D d i m : ℕ) (us vs : List ℕ) (ends : Ends N us vs) (deep : D 
   start_inside : first + d ≤ i + length r
   start_inside = rw first_is (inside m m1 mN)
     where
-      inside : (k : ℕ) → 1 ≤ k → k ≤ N → count_start N D (length us) d k + d ≤ i + length r
+      inside : (k : ℕ) → 1 ≤ k → k ≤ N → count_start N D (length ls) d k + d ≤ i + length r
       inside zero a b = absurd (omega arith)
       inside (suc k) a b = omega (arith, row.whole, part_within d k N b)
 
   short : i + length r ≤ 2 ^ 32
   short =
-      omega (arith, row.whole, bits_few N D (length us) d ends.arrays.survey.meters_high deep (few_links N us vs ends) d47)
+      omega (arith, row.whole, bits_few N D (length ls) d survey.meters_high deep survey.few d47)
 
   pub single_ready : (i < i + length r) × Room (2 ^ 61) (single here i ∷ []) r
   single_ready = (omega (arith, row.own), record { room = λ k. omega (arith, row.small k, single_norm here i, here_low) })
@@ -104,20 +94,17 @@ module _ (A N D d i m : ℕ) (us vs : List ℕ) (ends : Ends N us vs) (deep : D 
       second_small : (k : ℕ) → nat_abs (get_or t k (pos 0)) ≤ 2 ^ 60
       second_small k = rw f (omega (arith, first_small k, added_abs (times q i (numbered d first) ∷ []) i s k, numbered_small q i d d first d47 (omega arith), q_low))
 
-      pub touching_ready : (from : ℕ) → from ≤ length us → arcs_end N D from ≤ i → Ends N us vs × (D ≤ 24) × (arcs_end N D (length us) ≤ i + length t) × Roomy q i t × (from ≤ length us) × (arcs_end N D from ≤ i) × (m ≤ 48)
+      pub touching_ready : (from : ℕ) → from ≤ length ls → arcs_end N D from ≤ i → (arcs_end N D (length ls) ≤ i + length t) × Roomy q i t × (from ≤ length ls) × (arcs_end N D from ≤ i)
       touching_ready from inside under = (
-        ends,
-        deep,
         omega (arith, second_length, row.whole),
         record { small = second_small; factor = q_low; short = omega (arith, second_length, short) },
         inside,
         under,
-        omega (arith, mN, ends.arrays.survey.meters_high),
       )
 
-      pub degree_done : coef (degree_entries N D (length us) d (arcs_between us vs) m) i ≡ c → (z : List ℤ) → z ≡ add_terms (times q i (over (arcs_between us vs) (touching N D m)) ∷ []) i t
-          → z ≡ add_terms (degree_term A N D (length us) d (arcs_between us vs) m ∷ []) i r
+      pub degree_done : coef (degree_entries N D (length ls) d (arcs ls) m) i ≡ c → (z : List ℤ) → z ≡ add_terms (times q i (over (arcs ls) (touching N D m)) ∷ []) i t
+          → z ≡ add_terms (degree_term A N D (length ls) d (arcs ls) m ∷ []) i r
       degree_done h z g =
-          g ∙ ap (add_terms (times q i (over (arcs_between us vs) (touching N D m)) ∷ []) i) (f ∙ ap (add_terms (times q i (numbered d first) ∷ []) i) e)
+          g ∙ ap (add_terms (times q i (over (arcs ls) (touching N D m)) ∷ []) i) (f ∙ ap (add_terms (times q i (numbered d first) ∷ []) i) e)
           ∙ rw (q-is, here_is, first_is) refl
-          ∙ sym (degree_row A N D (length us) d (arcs_between us vs) m i c r h)
+          ∙ sym (degree_row A N D (length ls) d (arcs ls) m i c r h)

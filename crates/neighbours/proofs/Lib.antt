@@ -1,4 +1,5 @@
 pub mod CountValue
+pub mod CountBits
 pub mod CountRows
 pub mod DegreeParts
 pub mod DegreeTerm

@@ -1,5 +1,7 @@
 -- Only contracts between functions cite this: a reader of the public promises may skip it. The form of one meter's neighbours, part by part, and the row that its terms are added to. Assumes nothing.
-use Rattle.std.specs.Prelude.{ℕ, pred, ◌+◌, ◌*◌, ◌^◌, ◌≤◌, ◌≡◌, ◌||◌, cond, List, [], ◌∷◌, ◌++◌, eqb, length, get_or, ℤ, pos, nat_abs}
+use Rattle.std.specs.Prelude.{ℕ, pred, ◌+◌, ◌*◌, ◌^◌, ◌≤◌, ◌≡◌, cond, List, [], ◌∷◌, ◌++◌, length, get_or, ℤ, pos, nat_abs}
+use Rattle.links.specs.Links.{is_at}
+use Rattle.links.specs.declared.Link.{Link}
 use Rattle.qubo.specs.Formula.{Formula}
 use Rattle.qubo.specs.Terms.{each, over, times}
 use Rattle.qubo.specs.Rows.{run_sum}
@@ -28,8 +30,8 @@ abbrev pub link_run : ℕ → ℕ → ℕ → Run
 link_run N D k = record { start = arcs_end N D k; step = 1; count = 2 * D }
 
 -- q times bit i times these bits, where the link has an end at meter m
-unfoldable pub link_part : ℕ → ℕ → ℕ → ℤ → ℕ → Run → Formula
-link_part u v m q i run = cond (eqb u m || eqb v m) (times q i (run_sum run) ∷ []) []
+unfoldable pub link_part : Link → ℕ → ℤ → ℕ → Run → Formula
+link_part l m q i run = cond (is_at m l) (times q i (run_sum run) ∷ []) []
 
 -- ---- rows
 

@@ -1,45 +1,77 @@
-// Neighbour-count bits, the last ones of the table: d for each meter. What their one-hot penalty adds to a row, and its sum in an assignment.
-ghost use Rattle.std.specs.Prelude.{◌+◌, ◌*◌, ◌^◌, ◌≤◌, ◌≡◌};
+// Neighbour-count bits, the last ones of the table: d for each meter. Where they stand, what their one-hot penalty adds to a row, and its sum in an assignment.
+ghost use Rattle.std.specs.Prelude.{length, ◌+◌, ◌-◌, ◌*◌, ◌/◌, ◌%◌, ◌^◌, ◌≤◌, ◌≡◌};
 ghost use Rattle.qubo.specs.Formula.{Assignment};
 ghost use Rattle.qubo.specs.Rows.{add_terms};
 ghost use Rattle.onehot.specs.Choices.{misses};
 ghost use Rattle.arcs.specs.Arcs.{arcs_end};
 ghost use Rattle.neighbours.specs.Formula.{count_at, count_terms};
-ghost use Rattle.neighbours.specs.Inner.{TableRow};
+ghost use Rattle.neighbours.specs.Inner.{count_start, TableRow};
 
-use arcs::layout;
+use arcs::Arcs;
 
-// Adds A times the sum over meters of (1 - neighbour-count bits)² to row i. A neighbour-count bit belongs to one meter, and only that meter's square has it; no other bit is in any.
-pub fn add_counts(
-    row: &mut [i64],
-    i: usize,
-    meters: usize,
-    deepest: usize,
-    links: usize,
-    d: usize,
-    penalty: u64,
-)
-    requires { (1 ≤ d) × (d ≤ 47) × (meters ≤ 48) × (deepest ≤ 24) × (links ≤ 256) × TableRow (2 ^ 59) meters deepest links d penalty i row.old }
-    ensures { row.new ≡ add_terms (count_terms penalty meters deepest links d) i row.old }
-{
-    let base = layout::arcs_end(meters, deepest, links);
-    if i < base {
-        return;
-    }
-    let meter = layout::count_meter(base, d, i);
-    let run = qubo::Run {
-        start: layout::count_start(meters, deepest, links, d, meter),
-        step: 1,
-        count: d,
-    };
-    qubo::add_one_hot(row, i, run, penalty as i64);
+/// The neighbours of each meter in a relay tree of these arcs: up to d, one bit for each number of them.
+#[derive(Clone, Copy)]
+pub struct Neighbours<'a> {
+    pub arcs: Arcs<'a>,
+    pub d: usize,
+    pub ghost high: { d ≤ 47 },
 }
 
-// The sum over meters of (1 - neighbour-count bits)²: behind the bits of depths and arcs these are one-hot choices among d.
-pub fn count_misses(bits: &[u8], meters: usize, deepest: usize, links: usize, d: usize) -> u64
-    requires { (meters ≤ 48) × (deepest ≤ 24) × (links ≤ 256) × (d ≤ 47) × Assignment (arcs_end meters deepest links + meters * d) bits.now }
-    ensures { (result ≡ misses meters d (count_at meters deepest links d bits.now)) × (result ≤ 106032) }
-{
-    let base = layout::arcs_end(meters, deepest, links);
-    onehot::misses_of(&bits[base..], meters, d)
+impl<'a> Neighbours<'a> {
+    /// Where the d neighbour-count bits of meter v start.
+    pub fn count_start(&self, v: usize) -> usize
+        requires { (1 ≤ v) × (v ≤ 49) }
+        ensures { (result ≡ count_start self.now.arcs.survey.meters self.now.arcs.deepest (length self.now.arcs.survey.links.now) self.now.d v) × (result ≤ 15744) }
+    {
+        self.arcs.arcs_end() + (v - 1) * self.d
+    }
+
+    /// Where all of them end, and with them the table: where those of one more meter would start.
+    pub fn counts_end(&self) -> usize
+        ensures { (result ≡ arcs_end self.now.arcs.survey.meters self.now.arcs.deepest (length self.now.arcs.survey.links.now) + self.now.arcs.survey.meters * self.now.d) × (result ≤ 15744) }
+    {
+        self.count_start(self.arcs.survey.meters + 1)
+    }
+
+    /// The meter that bit i, a neighbour-count bit, is of.
+    pub fn count_meter(&self, i: usize) -> usize
+        requires { (1 ≤ self.now.d) × (arcs_end self.now.arcs.survey.meters self.now.arcs.deepest (length self.now.arcs.survey.links.now) ≤ i) × (i ≤ 2 ^ 32) }
+        ensures { result ≡ (i - arcs_end self.now.arcs.survey.meters self.now.arcs.deepest (length self.now.arcs.survey.links.now)) / self.now.d + 1 }
+    {
+        (i - self.arcs.arcs_end()) / self.d + 1
+    }
+
+    /// The number of neighbours that it stands for.
+    pub fn count_number(&self, i: usize) -> usize
+        requires { (1 ≤ self.now.d) × (arcs_end self.now.arcs.survey.meters self.now.arcs.deepest (length self.now.arcs.survey.links.now) ≤ i) × (i ≤ 2 ^ 32) }
+        ensures { result ≡ (i - arcs_end self.now.arcs.survey.meters self.now.arcs.deepest (length self.now.arcs.survey.links.now)) % self.now.d + 1 }
+    {
+        (i - self.arcs.arcs_end()) % self.d + 1
+    }
+
+    /// Adds A times the sum over meters of (1 - neighbour-count bits)² to row i. A neighbour-count bit belongs to one meter, and only that meter's square has it; no other bit is in any.
+    pub fn add_counts(&self, row: &mut [i64], i: usize, penalty: u64)
+        requires { (1 ≤ self.now.d) × TableRow (2 ^ 59) self.now.arcs.survey.meters self.now.arcs.deepest (length self.now.arcs.survey.links.now) self.now.d penalty i row.old }
+        ensures { row.new ≡ add_terms (count_terms penalty self.now.arcs.survey.meters self.now.arcs.deepest (length self.now.arcs.survey.links.now) self.now.d) i row.old }
+    {
+        if i < self.arcs.arcs_end() {
+            return;
+        }
+        let meter = self.count_meter(i);
+        let run = qubo::Run {
+            start: self.count_start(meter),
+            step: 1,
+            count: self.d,
+        };
+        qubo::add_one_hot(row, i, run, penalty as i64);
+    }
+
+    /// The sum over meters of (1 - neighbour-count bits)²: behind the bits of depths and arcs these are one-hot choices among d.
+    pub fn count_misses(&self, bits: &[u8]) -> u64
+        requires { Assignment (arcs_end self.now.arcs.survey.meters self.now.arcs.deepest (length self.now.arcs.survey.links.now) + self.now.arcs.survey.meters * self.now.d) bits.now }
+        ensures { (result ≡ misses self.now.arcs.survey.meters self.now.d (count_at self.now.arcs.survey.meters self.now.arcs.deepest (length self.now.arcs.survey.links.now) self.now.d bits.now)) × (result ≤ 106032) }
+    {
+        let base = self.arcs.arcs_end();
+        onehot::misses_of(&bits[base..], self.arcs.survey.meters, self.d)
+    }
 }

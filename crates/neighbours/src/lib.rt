@@ -1,5 +1,7 @@
 // Neighbour counts of relay trees: the bits that say how many neighbours a meter has, what they add to a row, and their sums in an assignment. Kind 3 stands above this.
 #![tactic(auto)]
 
-pub mod counts;
-pub mod degrees;
+mod counts;
+mod degrees;
+
+pub use counts::Neighbours;

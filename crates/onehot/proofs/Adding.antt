@@ -1,14 +1,16 @@
 -- Laws that the proof of add_part cites: a number added for each choice of a part that is set. Assumes nothing.
 use Prim.Native.Nat.{ℕ, zero, suc, ◌+◌, ◌*◌, ◌≤◌, ◌<◌}
-use mathlib.Core.Path.{◌≡◌, refl, ◌∙◌}
-use mathlib.Core.List.{List}
+use mathlib.Core.Path.{◌≡◌, refl, sym, ◌∙◌}
+use mathlib.Core.List.{List, [], ◌∷◌}
 use lib.ListN.{length, get_or, set, length-set}
 use native.Mathlib.Omega.{arith}
 use native.Mathlib.Decide.{ℕ_discrete, dec_le}
 use native.Mathlib.Numerals.{add-one}
 use native.Mathlib.Nat.{mul-zero, add-zero}
-use Rattle.lists.specs.Sums.{nth}
-use Rattle.lists.proofs.Sums.{nth_zero, nth_past, nth_suc, times_bit}
+use Rattle.std.specs.List.{sum}
+use Rattle.std.proofs.lemmas.List.Sums.{sum_by-cons}
+use Rattle.lists.specs.Sums.{sum_to, nth}
+use Rattle.lists.proofs.Sums.{sum_to_zero, sum_to_next, sum_to_eq, sum_to_split, sum_to_bits, nth_zero, nth_past, nth_suc, times_bit}
 use Rattle.lists.proofs.Stores.{added_here, added_elsewhere}
 use Rattle.qubo.specs.Formula.{Bits}
 
@@ -18,6 +20,26 @@ module _ (part : List ℕ) where
   pub nth_bit : Bits part → (j : ℕ) → nth part j ≤ 1
   nth_bit b zero = omega (arith, nth_zero part)
   nth_bit b (suc k) = rw (nth_suc part k) (b k)
+
+-- ---- the sum of a part's entries
+
+first_only : (a : ℕ) (part : List ℕ) → sum_to 1 (nth (a ∷ part)) ≡ a
+first_only a part = omega (arith, sum_to_next 0 (nth (a ∷ part)), sum_to_zero (nth (a ∷ part)), nth_suc (a ∷ part) 0)
+
+after_first : (a : ℕ) (part : List ℕ) (i : ℕ) → 1 ≤ i → nth (a ∷ part) (1 + i) ≡ nth part i
+after_first a part zero h = absurd (omega arith)
+after_first a part (suc j) h = let e : 1 + suc j ≡ suc (suc j) = omega arith in rw (e, nth_suc (a ∷ part) (suc j), nth_suc part j) refl
+
+pub sum_part : (part : List ℕ) → sum part ≡ sum_to (length part) (nth part)
+sum_part [] = sym (sum_to_zero (nth []))
+sum_part (a ∷ part) =
+    let e : length (a ∷ part) ≡ 1 + length part = omega arith in
+    let s : sum_to (length (a ∷ part)) (nth (a ∷ part)) ≡ sum_to 1 (nth (a ∷ part)) + sum_to (length part) (λ i. nth (a ∷ part) (1 + i)) = rw e (sum_to_split 1 (length part) (nth (a ∷ part))) in
+    omega (arith, sum_by-cons (λ x. x) a part, sum_part part, s, first_only a part, sum_to_eq (length part) (λ i. nth (a ∷ part) (1 + i)) (nth part) (λ i p q. after_first a part i p))
+
+-- that of bits
+pub sum_short : (part : List ℕ) → Bits part → sum part ≤ length part
+sum_short part b = omega (arith, sum_part part, sum_to_bits (length part) (nth part) (nth_bit part b))
 
 -- ---- w added for each choice of a part that is set
 

@@ -5,8 +5,11 @@ use mathlib.Core.List.{List, []}
 use lib.ListN.{length, get_or, set, take}
 use lib.Seq.{ext_get_or}
 use native.Mathlib.Omega.{arith}
+use native.Mathlib.Numerals.{add-one}
+use Rattle.std.specs.List.{AllWithin, HoldsAt}
+use Rattle.std.specs.Prelude.{Option, Some, None, MatchOption, unwrap_or}
 use Rattle.lists.specs.Sums.{lowest, same, nth}
-use Rattle.lists.proofs.Sums.{same_one, lowest_ok, lowest_eq, sum_to_same, nth_suc}
+use Rattle.lists.proofs.Sums.{same_one, lowest_zero, lowest_skip, lowest_found, lowest_ok, lowest_eq, sum_to_same, nth_suc}
 use Rattle.qubo.specs.Formula.{Assignment}
 use Rattle.onehot.specs.Choices.{bit_at, set_at, code, candidate}
 use Rattle.onehot.proofs.Codes.{each_length, each_at, filled_next, filled_end, Choices, bit_code, Hot, hot_code}
@@ -19,6 +22,25 @@ pub candidate_at : (N n : ℕ) (x : List ℕ) (v : ℕ) → 1 ≤ v → v ≤ N 
 unfolding candidate
 candidate_at N n x zero a b = absurd (omega arith)
 candidate_at N n x (suc k) a b = nth_suc (candidate N n x) k ∙ each_at N (λ v. lowest n (bit_at n x v)) k b
+
+-- ---- the lowest bit set in a part
+
+lowest_zeros : (n : ℕ) (part : List ℕ) → ((k : ℕ) → k < n → get_or part k 0 ≡ 0) → lowest n (nth part) ≡ 0
+lowest_zeros zero part h = lowest_zero (nth part)
+lowest_zeros (suc n) part h =
+    rw (add-one n) at (lowest_skip n (nth part) (lowest_zeros n part (λ k l. h k (omega arith))) (nth_suc part n ∙ h n (omega arith)))
+
+-- it is one above the first index of a byte that is not 0
+pub lowest_first : (part : List ℕ) (o : Option ℕ)
+    → MatchOption o (AllWithin (λ x. x ≡ 0) part 0 (length part)) (λ i. (i < length part) × HoldsAt (λ x. x ≡ 0 → ⊥) part i × AllWithin (λ x. x ≡ 0) part 0 i)
+    → MatchOption o (lowest (length part) (nth part) ≡ 0) (λ i. i + 1 ≡ lowest (length part) (nth part))
+lowest_first part None h = lowest_zeros (length part) part (λ k l. h k 0 (omega arith) l)
+lowest_first part (Some i) h = lowest_found (length part) i (nth part) h.0 (lowest_zeros i part (λ k l. h.2 k 0 (omega arith) l)) (λ e. h.1 0 (sym (nth_suc part i) ∙ e))
+
+-- 0 where there is none
+pub lowest_or : (o : Option ℕ) (k : ℕ) → MatchOption o (k ≡ 0) (λ c. (1 ≤ c) × (c ≡ k)) → unwrap_or o 0 ≡ k
+lowest_or None k h = sym h
+lowest_or (Some c) k h = h.1
 
 -- ---- exactly one set at each meter
 

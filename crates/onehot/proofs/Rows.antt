@@ -18,6 +18,7 @@ use Rattle.qubo.proofs.Runs.{run_lacks}
 use Rattle.qubo.proofs.RowShapes.{one_hot_absent}
 use Rattle.qubo.proofs.Turns.{one_hot_factor}
 use Rattle.onehot.specs.Choices.{bit_number, one_hots}
+use Rattle.links.specs.declared.Link.{Link}
 use Rattle.onehot.specs.Inner.{WithChoices}
 use Rattle.onehot.proofs.Penalty.{one_hots_small}
 use Rattle.onehot.proofs.Parts.{part_within}
@@ -121,12 +122,12 @@ module _ (A N n i : ℕ) (r : List ℤ) (n1 : 1 ≤ n) (h : i < N * n) where
 
 -- ---- the first part of a row: zeros, then the penalty
 
-module _ (A N n i : ℕ) (us vs ws : List ℕ) (lent : WithChoices N n us vs ws) (small : A ≤ 2 ^ 32) (L : ℕ) (top : i + L ≡ N * n) (r : List ℤ) (none : r ≡ zeros L) where
+module _ (A N n i : ℕ) (ls : List Link) (lent : WithChoices N n ls) (small : A ≤ 2 ^ 32) (L : ℕ) (top : i + L ≡ N * n) (r : List ℤ) (none : r ≡ zeros L) where
   pub hots_ready : (N * n ≤ i + length r) × Room (2 ^ 61) (one_hots A N n) r
   hots_ready =
       let e = row_none (N * n) L i r top none in (
         omega (arith, row_top (N * n) [] i r (omega arith) e),
-        row_room _ (N * n) [] (one_hots A N n) i r e (omega (arith, one_hots_small A N n lent.arrays.survey.meters_high lent.high small)),
+        row_room _ (N * n) [] (one_hots A N n) i r e (omega (arith, one_hots_small A N n lent.survey.meters_high lent.high small)),
       )
 
   pub row_hots : (s : List ℤ) → s ≡ add_terms (one_hots A N n) i r → s ≡ row_of (one_hots A N n) (N * n) i

@@ -1,30 +1,43 @@
 -- Laws that the proofs of src/ cite: the turns of loops and the values they end with. Assumes nothing.
 use Prim.Native.Nat.{ℕ, zero, suc, ◌+◌, ◌-◌, ◌*◌, ◌/◌, ◌%◌, ◌≤◌, ◌<◌}
 use mathlib.Core.Path.{◌≡◌, refl, sym, ap, ap₂, ◌∙◌}
-use mathlib.Core.Bool.{Bool, true, false}
-use mathlib.Core.List.{List}
-use lib.ListN.{length, get_or, set, take, drop, get_or-eq_default}
+use mathlib.Core.Bool.{Bool, true, ◌&&◌}
+use mathlib.Core.List.{List, [], ◌∷◌}
+use lib.ListN.{length, get_or, set, take, drop}
 use lib.Seq.{ext_get_or, get_or-set_same, get_or-set_other}
 use native.Mathlib.Omega.{arith}
-use native.Mathlib.Decide.{ℕ_discrete, dec_lt}
+use native.Mathlib.Decide.{ℕ_discrete}
 use native.Mathlib.Numerals.{add-one}
 use native.Mathlib.Nat.{le_refl, mul-le-mul, mul-zero, mod-lt, div-add-mod', div-lt_iff_lt-mul}
+use lib.Dec.{eqb, leb}
+use borrow.Author.Tests.{eq-eqb, ne_eqb}
+use Rattle.std.specs.Int.{abs_diff}
+use Rattle.std.specs.List.{list_all}
+use Rattle.lists.specs.Tests.{all}
 use Rattle.lists.specs.Sums.{sum_to, same, differ, gap, nth}
-use Rattle.lists.proofs.Sums.{sum_to_next, sum_to_eq, same_yes, same_no, differ_yes, differ_no, nth_index, nth_suc}
+use Rattle.lists.proofs.Sums.{sum_to_next, sum_to_eq, same_yes, same_no, differ_yes, differ_no, nth_suc}
 use Rattle.qubo.specs.Formula.{Bits}
 use Rattle.onehot.specs.Choices.{bit_at, set_at, miss_squared, misses, are_choices, code}
-use Rattle.onehot.proofs.Codes.{choices_are, are_choices_fact, code_length, code_at}
-use Rattle.onehot.proofs.Parts.{one_less, part_within, part_of, part_length, part_at, cut_small}
+use Rattle.onehot.proofs.Codes.{choices_are, code_length, code_at}
+use Rattle.onehot.proofs.Parts.{part_within, part_of, part_length, part_at}
 
 -- ---- two parts, choice by choice
+
+-- two bits
+pub bit_bit : (x y : ℕ) → x ≤ 1 → y ≤ 1 → x * y ≤ 1
+bit_bit x y a b = mul-le-mul a b
 
 -- whether both of two parts have their bit for choice i set
 unfoldable pub both_set : List ℕ → List ℕ → ℕ → ℕ
 both_set part other i = nth part i * nth other i
 
-pub both_next : (part other : List ℕ) (i : ℕ) → sum_to (i + 1) (both_set part other) ≡ sum_to i (both_set part other) + get_or part i 0 * get_or other i 0
+both_next : (part other : List ℕ) (i : ℕ) → sum_to (i + 1) (both_set part other) ≡ sum_to i (both_set part other) + get_or part i 0 * get_or other i 0
 unfolding both_set
 both_next part other i = rw (sum_to_next i (both_set part other), nth_suc part i, nth_suc other i) refl
+
+-- the bits x and y at index i, counted from 0
+pub both_turn : (part other : List ℕ) (i x y : ℕ) → Bits part → Bits other → x ≡ get_or part i 0 → y ≡ get_or other i 0 → (x * y ≤ 1) × (sum_to (i + 1) (both_set part other) ≡ sum_to i (both_set part other) + x * y)
+both_turn part other i x y a b d e = rw (d, e) (bit_bit (get_or part i 0) (get_or other i 0) (a i) (b i), both_next part other i)
 
 pub both_are : (part other : List ℕ) (i n s : ℕ) → i ≡ n → s ≡ sum_to i (both_set part other) → s ≡ sum_to n (λ j. nth part j * nth other j)
 unfolding both_set
@@ -35,25 +48,23 @@ unfoldable pub differ_at : List ℕ → List ℕ → ℕ → ℕ
 differ_at part other i = differ (nth part i) (nth other i)
 
 module _ (part other : List ℕ) (i : ℕ) where
-  apart_next : sum_to (i + 1) (differ_at part other) ≡ sum_to i (differ_at part other) + differ (get_or part i 0) (get_or other i 0)
-  unfolding differ_at
-  apart_next = rw (sum_to_next i (differ_at part other), nth_suc part i, nth_suc other i) refl
+  -- the bits x and y at index i, counted from 0
+  module _ (x y : ℕ) (d : x ≡ get_or part i 0) (e : y ≡ get_or other i 0) where
+    apart_next : sum_to (i + 1) (differ_at part other) ≡ sum_to i (differ_at part other) + differ x y
+    unfolding differ_at
+    apart_next = rw (d, e, sum_to_next i (differ_at part other), nth_suc part i, nth_suc other i) refl
 
-  pub apart_more : (get_or part i 0 ≡ get_or other i 0 → ⊥) → sum_to (i + 1) (differ_at part other) ≡ sum_to i (differ_at part other) + 1
-  apart_more h = omega (arith, apart_next, differ_yes (get_or part i 0) (get_or other i 0) h)
+    pub apart_more : (x ≡ y → ⊥) → sum_to (i + 1) (differ_at part other) ≡ sum_to i (differ_at part other) + 1
+    apart_more h = omega (arith, apart_next, differ_yes x y h)
 
-  pub apart_same : get_or part i 0 ≡ get_or other i 0 → sum_to (i + 1) (differ_at part other) ≡ sum_to i (differ_at part other)
-  apart_same h = omega (arith, apart_next, differ_no (get_or part i 0) (get_or other i 0) h)
+    pub apart_same : x ≡ y → sum_to (i + 1) (differ_at part other) ≡ sum_to i (differ_at part other)
+    apart_same h = omega (arith, apart_next, differ_no x y h)
 
   pub apart_are : (n s : ℕ) → i ≡ n → s ≡ sum_to i (differ_at part other) → s ≡ sum_to n (λ j. differ (nth part j) (nth other j))
   unfolding differ_at
   apart_are n s e h = rw (← e) h
 
--- two bits
-pub bit_bit : (x y : ℕ) → x ≤ 1 → y ≤ 1 → x * y ≤ 1
-bit_bit x y a b = mul-le-mul a b
-
--- ---- the parts of two meters
+-- ---- the parts of meters
 
 module _ (n m : ℕ) (x : List ℕ) (low : 1 ≤ m) (fits : m * n ≤ length x) where
   cut_is : part_of n (m - 1) x ≡ take n (drop ((m - 1) * n) x)
@@ -65,44 +76,26 @@ module _ (n m : ℕ) (x : List ℕ) (low : 1 ≤ m) (fits : m * n ≤ length x) 
   pub cut_at : (i : ℕ) → 1 ≤ i → i ≤ n → nth (part_of n (m - 1) x) i ≡ bit_at n x m i
   cut_at = part_at n m m x (part_of n (m - 1) x) cut_is low (le_refl m) fits
 
-module _ (n u v : ℕ) (x : List ℕ) (u1 : 1 ≤ u) (v1 : 1 ≤ v) (fits-u : u * n ≤ length x) (fits-v : v * n ≤ length x) where
-  pub cuts_even : n ≤ 16 → (length (part_of n (v - 1) x) ≡ length (part_of n (u - 1) x)) × (length (part_of n (u - 1) x) ≤ 16)
-  cuts_even h = let p : length (part_of n (u - 1) x) ≡ n = cut_length n u x u1 fits-u in (cut_length n v x v1 fits-v ∙ sym p, omega arith)
-
-  pub cuts_small : Bits x → Bits (part_of n (u - 1) x) × Bits (part_of n (v - 1) x)
-  cuts_small b = (cut_small n u (u - 1) x (omega arith) fits-u b, cut_small n v (v - 1) x (omega arith) fits-v b)
-
+-- p and q are the parts of u and v
+module _ (n u v : ℕ) (x p q : List ℕ) (p-is : p ≡ take n (drop ((u - 1) * n) x)) (q-is : q ≡ take n (drop ((v - 1) * n) x)) (u1 : 1 ≤ u) (v1 : 1 ≤ v) (fits-u : u * n ≤ length x) (fits-v : v * n ≤ length x) where
   -- what f makes of the two bits of each choice, added up
-  pub cuts_sum : (f : ℕ → ℕ → ℕ) → sum_to (length (part_of n (u - 1) x)) (λ i. f (nth (part_of n (u - 1) x) i) (nth (part_of n (v - 1) x) i)) ≡ sum_to n (λ i. f (bit_at n x u i) (bit_at n x v i))
-  cuts_sum f = rw (cut_length n u x u1 fits-u) (sum_to_eq n _ _ (λ i p q. ap₂ f (cut_at n u x u1 fits-u i p q) (cut_at n v x v1 fits-v i p q)))
+  pub cuts_sum : (f : ℕ → ℕ → ℕ) → sum_to (length p) (λ i. f (nth p i) (nth q i)) ≡ sum_to n (λ i. f (bit_at n x u i) (bit_at n x v i))
+  cuts_sum f =
+      rw (part_length n u u x p p-is u1 (le_refl u) fits-u)
+      (sum_to_eq n _ _ (λ i a b. ap₂ f (part_at n u u x p p-is u1 (le_refl u) fits-u i a b) (part_at n v v x q q-is v1 (le_refl v) fits-v i a b)))
 
 -- ---- the misses
 
-pub miss_none : (k : ℕ) → k ≡ 0 → 1 ≡ miss_squared k
+-- the distance of k from 1, squared
+pub miss_is : (k d : ℕ) → d ≡ abs_diff k 1 → k ≤ 48 → (d * d ≡ miss_squared k) × (d * d ≤ 2209)
 unfolding miss_squared
-miss_none zero h = refl
-miss_none (suc k) h = absurd (omega arith)
+miss_is zero d e h = let f : d ≡ 1 = omega arith in rw f (refl, omega arith)
+miss_is (suc k) d e h = let f : d ≡ k = omega arith in rw f (refl, mul-le-mul {n₂ = 47} {m₂ = 47} (omega arith) (omega arith))
 
-pub miss_some : (k : ℕ) → (k ≡ 0 → ⊥) → (k - 1) * (k - 1) ≡ miss_squared k
-unfolding miss_squared
-miss_some zero h = absurd (h refl)
-miss_some (suc k) h = rw (one_less k) refl
-
-pub square_47 : (j : ℕ) → j ≤ 47 → j * j ≤ 2209
-square_47 j h = mul-le-mul h h
-
--- (a - b)², whichever is greater
-pub square_up : (a b : ℕ) → a < b → (b - a) * (b - a) ≡ gap a b * gap a b
+-- the distance of two numbers
+pub abs_gap : (a b d : ℕ) → d ≡ abs_diff a b → d ≡ gap a b
 unfolding gap
-square_up a b h = let e : (a - b) + (b - a) ≡ b - a = omega arith in rw e refl
-
-pub square_down : (a b : ℕ) → b ≤ a → (a - b) * (a - b) ≡ gap a b * gap a b
-unfolding gap
-square_down a b h = let e : (a - b) + (b - a) ≡ a - b = omega arith in rw e refl
-
--- of numbers of 16 bits
-pub square_fits : (d : ℕ) → d ≤ 65535 → d * d ≤ 4294836225
-square_fits d h = mul-le-mul h h
+abs_gap a b d e = omega arith
 
 pub misses_zero : (n : ℕ) (b : ℕ → ℕ → ℕ) → misses 0 n b ≡ 0
 unfolding misses sum_to
@@ -114,13 +107,19 @@ misses_next v n b = rw add-one refl
 
 -- ---- the test of choices
 
-not_so : (t : Bool) → (t ≡ true → ⊥) → false ≡ t
-not_so true h = absurd (h refl)
-not_so false h = refl
+all_is : (f : ℕ → Bool) (p : List ℕ) → list_all f p ≡ all f p
+unfolding all
+all_is f [] = refl
+all_is f (c ∷ p) = ap (λ (t : Bool). f c && t) (all_is f p)
 
 module _ (N n : ℕ) (p : List ℕ) where
-  pub choices_size : (length p ≡ N → ⊥) → false ≡ are_choices N n p
-  choices_size h = not_so (are_choices N n p) (λ e. h (choices_are N n p e).size)
+  pub choices_size : (length p ≡ N → ⊥) → eqb (length p) N ≡ are_choices N n p
+  unfolding are_choices
+  choices_size h = rw (ne_eqb (length p) N h) refl
+
+  pub choices_tested : length p ≡ N → (t : Bool) → t ≡ list_all (λ c. leb 1 c && leb c n) p → t ≡ are_choices N n p
+  unfolding are_choices
+  choices_tested e t h = rw (eq-eqb (length p) N e) (h ∙ all_is _ p)
 
   pub choice_at : are_choices N n p ≡ true → (k : ℕ) → k < N → (1 ≤ get_or p k 0) × (get_or p k 0 ≤ n)
   choice_at e k h = rw (nth_suc p k) at ((choices_are N n p e).fits (suc k) (omega arith) h)
@@ -128,27 +127,6 @@ module _ (N n : ℕ) (p : List ℕ) where
   -- as many as meters, and none above n
   pub choices_within : are_choices N n p ≡ true → (length p ≡ N) × ((k : ℕ) → k < N → get_or p k 0 ≤ n)
   choices_within e = ((choices_are N n p e).size, λ k h. (choice_at e k h).1)
-
-  pub choices_no : (k : ℕ) → k < N → ((1 ≤ get_or p k 0) × (get_or p k 0 ≤ n) → ⊥) → false ≡ are_choices N n p
-  choices_no k l h = not_so (are_choices N n p) (λ e. h (choice_at e k l))
-
-  pub choices_yes : length p ≡ N → ((k : ℕ) → k < N → (1 ≤ get_or p k 0) × (get_or p k 0 ≤ n)) → true ≡ are_choices N n p
-  choices_yes e h = sym (are_choices_fact N n p (record { size = e; fits = each }))
-    where
-      each : (v : ℕ) → 1 ≤ v → v ≤ N → (1 ≤ nth p v) × (nth p v ≤ n)
-      each v a b = rw (nth_index p v a) (h (v - 1) (omega arith))
-
--- ---- bits made 0
-
-pub zero_next : (x : List ℕ) (t : ℕ) → t < length x → ((k : ℕ) → k < t → get_or x k 0 ≡ 0) → (k : ℕ) → k < t + 1 → get_or (set x t 0) k 0 ≡ 0
-zero_next x t h z k l =
-    elim (ℕ_discrete k t) [
-      | yes e ↦ ap (λ (j : ℕ). get_or (set x t 0) j 0) e ∙ get_or-set_same x t 0 0 h
-      | no e ↦ get_or-set_other x t k 0 0 e ∙ z k (omega arith)
-    ]
-
-pub zero_all : (x : List ℕ) (t : ℕ) → length x ≤ t → ((k : ℕ) → k < t → get_or x k 0 ≡ 0) → (k : ℕ) → get_or x k 0 ≡ 0
-zero_all x t h z k = elim (dec_lt k t) [ yes l ↦ z k l | no l ↦ get_or-eq_default x 0 (omega arith) ]
 
 -- ---- a code, meter by meter
 

@@ -2,7 +2,7 @@
 use Rattle.std.specs.Prelude.{ℕ, zero, suc, pred, ◌+◌, ◌*◌, Bool, ◌&&◌, List, length, get_or, pos, eqb, leb}
 use Rattle.lists.specs.Tests.{all}
 use Rattle.lists.specs.Sums.{sum_to, sum_of, lowest, same, nth}
-use Rattle.links.specs.Links.{Link}
+use Rattle.links.specs.declared.Link.{Link}
 use Rattle.qubo.specs.Formula.{Formula}
 use Rattle.qubo.specs.Terms.{each, over, one_hot}
 

@@ -1,9 +1,10 @@
 -- Only contracts between functions cite this: a reader of the public promises may skip it. What the code of this crate and of the kinds above asks for: an accepted site and from 1 to 16 choices. The crate above the kinds shows it before it calls. Assumes nothing.
 use Rattle.std.specs.Prelude.{ℕ, ◌≤◌, List}
-use Rattle.links.specs.Survey.{Arrays}
+use Rattle.links.specs.declared.Link.{Link}
+use Rattle.links.specs.Survey.{IsSurvey}
 
--- the arrays of an accepted site, and n from 1 to 16
-pub record WithChoices (N n : ℕ) (us vs ws : List ℕ) : Type 0 where
-  pub arrays : Arrays N us vs ws
+-- an accepted site, and n from 1 to 16
+pub record WithChoices (N n : ℕ) (ls : List Link) : Type 0 where
+  pub survey : IsSurvey N ls
   pub low : 1 ≤ n
   pub high : n ≤ 16

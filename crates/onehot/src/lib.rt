@@ -2,40 +2,39 @@
 // A meter's n bits are lent as a part of the assignment by themselves.
 #![tactic(auto)]
 
-ghost use Rattle.std.specs.Prelude.{ℕ, ◌+◌, ◌*◌, ◌≤◌, ◌<◌, ◌^◌, true, ◌≡◌, length, get_or};
+ghost use Rattle.std.specs.Prelude.{MatchOption, ℕ, ◌+◌, ◌-◌, ◌*◌, ◌≤◌, ◌<◌, ◌^◌, true, ◌≡◌, length, get_or, take, drop};
 ghost use Rattle.lists.specs.Sums.{sum_to, lowest, same, differ, gap, nth};
-ghost use Rattle.links.specs.Links.{links_of};
-ghost use Rattle.links.specs.Survey.{Arrays};
 ghost use Rattle.qubo.specs.Formula.{Bits, Assignment};
 ghost use Rattle.qubo.specs.Rows.{add_terms, Room};
 ghost use Rattle.onehot.specs.Choices.{bit_at, one_hots, miss_squared, misses, are_choices, code, candidate, alike_weight};
 
-// How many bits of a part are set. It is so short that a byte holds the sum, and sums of bytes are quick.
+use links::Survey;
+use qubo::Run;
+
+/// How many bits of a part are set. It is so short that a byte holds the sum, and sums of bytes are quick.
 pub fn set_count(part: &[u8]) -> usize
     requires { Bits part.now × (length part.now < 256) }
     ensures { result ≡ sum_to (length part.now) (nth part.now) }
 {
-    let mut sum: u8 = 0;
-    let mut i = 0;
-    while i < part.len() {
-        sum += part[i];
-        i += 1;
-    }
+    let sum: u8 = part.iter().sum();
     sum as usize
 }
 
-// The lowest choice that is set in a part, 0 where none is.
-pub fn lowest_set(part: &[u8]) -> usize
-    ensures { result ≡ lowest (length part.now) (nth part.now) }
+/// The lowest choice that is set in a part, from 1.
+pub fn lowest_set(part: &[u8]) -> Option<usize>
+    ensures { MatchOption result (lowest (length part.now) (nth part.now) ≡ 0) (λ c. (1 ≤ c) × (c ≡ lowest (length part.now) (nth part.now))) }
 {
-    let mut i = 0;
-    while i < part.len() {
-        if part[i] != 0 {
-            return i + 1;
-        }
-        i += 1;
-    }
-    0
+    let first = part.iter().position(|bit| *bit != 0)?;
+    Some(first + 1)
+}
+
+// The n bits of meter m.
+fn part_of(bits: &[u8], m: u8, n: usize) -> &[u8]
+    requires { (1 ≤ m) × (m * n ≤ length bits.now) }
+    ensures { result.now ≡ take n (drop ((m - 1) * n) bits.now) }
+{
+    let start = ((m as usize) - 1) * n;
+    &bits[start..start + n]
 }
 
 // On how many choices two parts both have their bit set. There are at most 16, so a byte holds the sum, and sums of bytes are quick.
@@ -44,204 +43,161 @@ fn overlap(part: &[u8], other: &[u8]) -> u64
     ensures { result ≡ sum_to (length part.now) (λ i. nth part.now i * nth other.now i) }
 {
     let mut both: u8 = 0;
-    let mut i = 0;
-    while i < part.len() {
-        both += part[i] * other[i];
-        i += 1;
+    for (bit, other_bit) in part.iter().zip(other) {
+        both += *bit * *other_bit;
     }
     both as u64
 }
 
-// On how many choices the meters u and v both have their bit set.
+/// On how many choices the meters u and v both have their bit set.
 pub fn shared(bits: &[u8], u: u8, v: u8, n: usize) -> u64
     requires { (1 ≤ u) × (1 ≤ v) × (u * n ≤ length bits.now) × (v * n ≤ length bits.now) × (n ≤ 16) × Bits bits.now }
     ensures { result ≡ sum_to n (λ i. bit_at n bits.now u i * bit_at n bits.now v i) }
 {
-    let a = ((u as usize) - 1) * n;
-    let b = ((v as usize) - 1) * n;
-    overlap(&bits[a..a + n], &bits[b..b + n])
+    overlap(part_of(bits, u, n), part_of(bits, v, n))
 }
 
-// On how many choices exactly one of two parts has its bit set.
+// On how many choices exactly one of two parts has its bit set, counted in a byte likewise.
 fn apart(part: &[u8], other: &[u8]) -> u64
     requires { (length other.now ≡ length part.now) × (length part.now ≤ 16) }
     ensures { result ≡ sum_to (length part.now) (λ i. differ (nth part.now i) (nth other.now i)) }
 {
     let mut count: u8 = 0;
-    let mut i = 0;
-    while i < part.len() {
-        if part[i] != other[i] {
+    for (bit, other_bit) in part.iter().zip(other) {
+        if *bit != *other_bit {
             count += 1;
         }
-        i += 1;
     }
     count as u64
 }
 
-// On how many choices exactly one of the meters u and v has its bit set.
+/// On how many choices exactly one of the meters u and v has its bit set.
 pub fn unshared(bits: &[u8], u: u8, v: u8, n: usize) -> u64
     requires { (1 ≤ u) × (1 ≤ v) × (u * n ≤ length bits.now) × (v * n ≤ length bits.now) × (n ≤ 16) }
     ensures { result ≡ sum_to n (λ i. differ (bit_at n bits.now u i) (bit_at n bits.now v i)) }
 {
-    let a = ((u as usize) - 1) * n;
-    let b = ((v as usize) - 1) * n;
-    apart(&bits[a..a + n], &bits[b..b + n])
+    apart(part_of(bits, u, n), part_of(bits, v, n))
 }
 
-// Adds w to the sum of each choice that is set in a part, which stand in the places 1, 2, ..
+/// Adds w to the sum of each choice that is set in a part, which stand in the places 1, 2, ..
 pub fn add_part(sums: &mut [u64], part: &[u8], w: u64)
     requires { (length part.now < length sums.old) × (w ≤ 65535) × Bits part.now × ((i : ℕ) → 1 ≤ i → i ≤ length part.now → get_or sums.old i 0 < 4294967296) }
     ensures { (length sums.new ≡ length sums.old) × ((i : ℕ) → 1 ≤ i → i ≤ length part.now → get_or sums.new i 0 ≡ get_or sums.old i 0 + w * nth part.now i) × ((i : ℕ) → get_or sums.new i 0 ≤ get_or sums.old i 0 + w) }
 {
-    let mut i: usize = 0;
-    while i < part.len() {
-        let next = i + 1;
-        sums[next] = sums[next] + w * (part[i] as u64);
-        i = next;
+    for (i, bit) in part.iter().enumerate() {
+        sums[i + 1] += w * (*bit as u64);
     }
 }
 
-// (1 - k)².
+/// (1 - k)².
 pub fn miss_squared(k: usize) -> u64
     requires { k ≤ 48 }
     ensures { (result ≡ miss_squared k) × (result ≤ 2209) }
 {
-    if k == 0 {
-        return 1;
-    }
-    let j = (k - 1) as u64;
-    j * j
+    let off = k.abs_diff(1) as u64;
+    off * off
 }
 
-// (a - b)².
+/// (a - b)².
 pub fn gap_squared(a: u64, b: u64) -> u64
     requires { (a ≤ 65535) × (b ≤ 65535) }
     ensures { result ≡ gap a b * gap a b }
 {
-    if a < b {
-        return (b - a) * (b - a);
-    }
-    (a - b) * (a - b)
+    let apart = a.abs_diff(b);
+    apart * apart
 }
 
-// The sum over meters of (1 - bits set at it)².
+/// The sum over meters of (1 - bits set at it)².
 pub fn misses_of(bits: &[u8], meters: usize, n: usize) -> u64
     requires { (meters ≤ 48) × (n ≤ 48) × Assignment (meters * n) bits.now }
     ensures { (result ≡ misses meters n (bit_at n bits.now)) × (result ≤ 106032) }
 {
-    let mut sum: u64 = 0;
-    let mut v: usize = 0;
-    while v < meters {
+    let mut sum = 0;
+    // not by `chunks_exact`: n may be 0
+    for v in 0..meters {
         let start = v * n;
-        let end = start + n;
-        let k = set_count(&bits[start..end]);
-        sum += miss_squared(k);
-        v += 1;
+        sum += miss_squared(set_count(&bits[start..start + n]));
     }
     sum
 }
 
-// Whether the bytes give each of so many meters one of the choices 1..n.
+/// Whether the bytes give each of so many meters one of the choices 1..n.
 pub fn are_choices(plan: &[u8], meters: usize, n: usize) -> bool
     ensures { result ≡ are_choices meters n plan.now }
 {
-    if plan.len() != meters {
-        return false;
-    }
-    let mut v: usize = 0;
-    while v < meters {
-        let c = plan[v] as usize;
-        if c == 0 {
-            return false;
-        }
-        if n < c {
-            return false;
-        }
-        v += 1;
-    }
-    true
+    plan.len() == meters
+        && plan
+            .iter()
+            .all(|choice| 1 <= *choice && (*choice as usize) <= n)
 }
 
-// The lowest choice set at each meter, 0 where none is.
+/// The lowest choice set at each meter, 0 where none is.
 pub fn read_off(bits: &[u8], meters: usize, n: usize, plan: &mut [u8])
     requires { (meters ≤ 48) × (n ≤ 16) × (length bits.now ≡ meters * n) × (length plan.old ≡ meters) }
     ensures { plan.new ≡ candidate meters n bits.now }
 {
-    let mut v: usize = 0;
-    while v < meters {
+    // not by `chunks_exact`: n may be 0
+    for v in 0..meters {
         let start = v * n;
-        let end = start + n;
-        let c = lowest_set(&bits[start..end]);
-        plan[v] = c as u8;
-        v += 1;
+        let choice = lowest_set(&bits[start..start + n]);
+        plan[v] = choice.unwrap_or(0) as u8;
     }
 }
 
-// Makes all bits 0.
+/// Makes all bits 0.
 pub fn clear_bits(bits: &mut [u8])
     ensures { (length bits.new ≡ length bits.old) × ((k : ℕ) → get_or bits.new k 0 ≡ 0) }
 {
-    let mut k = 0;
-    while k < bits.len() {
-        bits[k] = 0;
-        k += 1;
-    }
+    bits.fill(0);
 }
 
-// The code of a plan; the choice 0 sets no bit of its meter.
+/// The code of a plan; the choice 0 sets no bit of its meter.
 pub fn encode(plan: &[u8], meters: usize, n: usize, bits: &mut [u8])
     requires { (length plan.now ≡ meters) × ((v : ℕ) → v < meters → get_or plan.now v 0 ≤ n) × (length bits.old ≡ meters * n) }
     ensures { bits.new ≡ code n plan.now }
 {
     clear_bits(bits);
-    let mut v: usize = 0;
-    while v < meters {
-        let c = plan[v] as usize;
-        if c != 0 {
-            bits[v * n + (c - 1)] = 1;
+    // not by `chunks_exact_mut`: n may be 0
+    for (v, choice) in plan.iter().enumerate() {
+        if *choice != 0 {
+            bits[v * n + ((*choice as usize) - 1)] = 1;
         }
-        v += 1;
     }
 }
 
-// The weight of all links with the same choice at both ends: what clashes in a plan of channels, and what a plan of groups does not cut.
-pub fn alike_weight(plan: &[u8], us: &[u8], vs: &[u8], ws: &[u16]) -> u64
-    requires { Arrays (length plan.now) us.now vs.now ws.now }
-    ensures { result ≡ alike_weight (links_of us.now vs.now ws.now) plan.now }
+/// The weight of all links with the same choice at both ends: what clashes in a plan of channels, and what a plan of groups does not cut.
+pub fn alike_weight(plan: &[u8], survey: &Survey) -> u64
+    requires { length plan.now ≡ survey.now.meters }
+    ensures { result ≡ alike_weight survey.now.links.now plan.now }
 {
-    let mut sum: u64 = 0;
-    let mut k = 0;
-    while k < us.len() {
-        let u = us[k] as usize;
-        let v = vs[k] as usize;
-        if plan[u - 1] == plan[v - 1] {
-            sum += ws[k] as u64;
+    let mut sum = 0;
+    for link in survey.links {
+        if plan[(link.u as usize) - 1] == plan[(link.v as usize) - 1] {
+            sum += link.weight as u64;
         }
-        k += 1;
     }
     sum
 }
 
-// How many meters have each choice: those of choice g are counted in place g of 256, since a choice is a byte.
-pub fn count_choices(counts: &mut [u64], plan: &[u8])
-    requires { (length plan.now ≤ 48) × (length counts.old ≡ 256) × ((g : ℕ) → get_or counts.old g 0 ≡ 0) }
-    ensures { (length counts.new ≡ 256) × ((g : ℕ) → get_or counts.new g 0 ≡ sum_to (length plan.now) (λ v. same (nth plan.now v) g)) }
+/// How many meters have each choice: those of choice g are counted in place g of 256, since a choice is a byte.
+pub fn count_choices(plan: &[u8]) -> [u64; 256]
+    requires { length plan.now ≤ 48 }
+    ensures { (length result ≡ 256) × ((g : ℕ) → get_or result g 0 ≡ sum_to (length plan.now) (λ v. same (nth plan.now v) g)) }
 {
-    let mut v: usize = 0;
-    while v < plan.len() {
-        let g = plan[v] as usize;
-        counts[g] = counts[g] + 1;
-        v += 1;
+    let mut counts = [0; 256];
+    for choice in plan {
+        counts[(*choice as usize)] += 1;
     }
+    counts
 }
 
-// Adds A times the sum over meters of (1 - bits set at it)² to row i, however many meters there are. Bit i belongs to one meter, and only that meter's square has it.
+/// Adds A times the sum over meters of (1 - bits set at it)² to row i, however many meters there are. Bit i belongs to one meter, and only that meter's square has it.
 pub fn add_one_hots(row: &mut [i64], i: usize, n: usize, penalty: u64)
     requires { (N : ℕ) × (1 ≤ n) × (i < N * n) × (N * n ≤ i + length row.old) × (N * n ≤ 2 ^ 32) × Room (2 ^ 61) (one_hots penalty N n) row.old }
     ensures { (N : ℕ) → i < N * n → row.new ≡ add_terms (one_hots penalty N n) i row.old }
 {
     let first = i - i % n;
-    let run = qubo::Run {
+    let run = Run {
         start: first,
         step: 1,
         count: n,

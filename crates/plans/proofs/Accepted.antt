@@ -10,7 +10,7 @@ use lib.IntN.{ℤ}
 use native.Mathlib.Omega.{arith}
 use native.Mathlib.Decide.{ℕ_discrete}
 use borrow.Author.Tests.{eq-eqb, lt-leb, le-ltb}
-use Rattle.links.specs.Survey.{Survey}
+use Rattle.links.specs.Survey.{IsSurvey}
 use Rattle.qubo.specs.Formula.{Bits, Assignment}
 use Rattle.qubo.specs.Table.{row_of}
 use Rattle.qubo.specs.Instance.{Instance, CodesPlan}
@@ -34,7 +34,7 @@ use Rattle.plans.proofs.Posed.{good_survey, good_limits, good_margin, good_count
 
 -- a valid image, limits that hold, and at most 8,192 bits
 pub record Facts (s : List ℕ) (a : Ask) : Type 0 where
-  pub survey : Survey (meters s) (links s)
+  pub survey : IsSurvey (meters s) (links s)
   pub limits : limits_hold (meters s) (kind_of a) ≡ true
   pub few : (instance_in s a).bits ≤ most_bits
   pub is_sound : Sound (instance_in s a)
@@ -48,7 +48,7 @@ accepted_facts s a ok =
 
 -- the same where the kind is known: k
 pub record Asked (s : List ℕ) (a : Ask) (k : Kind) : Type 0 where
-  pub survey : Survey (meters s) (links s)
+  pub survey : IsSurvey (meters s) (links s)
   pub limits : limits_hold (meters s) k ≡ true
   pub from : penalty_of (site_in s) k ≤ penalty_asked (site_in s) a
   pub is : instance_in s a ≡ instance_by (penalty_asked (site_in s) a) (site_in s) k

@@ -1,9 +1,9 @@
 -- The calls of src/lib.rt: what they give where an earlier test refuses, and what the later tests and the kind's own crate decide once image and ask are accepted. Assumes nothing.
-use Prim.Native.Nat.{ℕ, zero, suc, ◌-◌}
+use Prim.Native.Nat.{ℕ, zero, suc, ◌-◌, ◌<◌}
 use mathlib.Core.Bool.{Bool, true, false, not, cond}
-use mathlib.Core.Path.{◌≡◌, refl, sym, ap, ◌∙◌}
+use mathlib.Core.Path.{◌≡◌, refl, sym, ap, ◌∙◌, subst}
 use mathlib.Core.List.{List, [], ◌∷◌, ◌++◌}
-use lib.IntN.{ℤ, pos}
+use lib.IntN.{ℤ}
 use lib.Dec.{eqb}
 use lib.ListN.{length, take}
 use native.Mathlib.Omega.{arith}
@@ -11,70 +11,89 @@ use native.Mathlib.Nat.{suc-ne-zero}
 use borrow.Author.Tests.{not-true, not-false}
 use Rattle.qubo.specs.Table.{constant_of, row_of}
 use Rattle.qubo.specs.Instance.{Instance, energy_of}
-use Rattle.qubo.specs.Decoding.{plan_after}
+use Rattle.qubo.specs.Decoding.{row_filled, code_after, answer_of, plan_after}
+use Rattle.qubo.specs.declared.problem.Decoded.{Decoded}
 use Rattle.qubo.proofs.RowAction.{row_length}
-use Rattle.site.specs.Refusal.{refusal, unless_refused}
+use Rattle.std.specs.Prelude.{Option, Some, None, Result, Ok, Err, MatchResult, ◌≤◌}
+use Rattle.std.specs.Result.{result_unwrap_or}
+use Rattle.qubo.specs.Formula.{Assignment}
+use Rattle.std.specs.Option.{ok_or}
+use Rattle.site.specs.Refusal.{refusal, unless_refused, number_of}
+use Rattle.site.proofs.Calls.{number_above}
 use Rattle.site.proofs.Refused.{refusal_here, refusal_last, done, kept}
 use Rattle.plans.specs.declared.Ask.{Ask}
-use Rattle.plans.specs.declared.Number.{Number}
-use Rattle.plans.specs.declared.Number.TheVariants as number
-use Rattle.plans.specs.declared.Decoded.{Decoded}
-use Rattle.plans.specs.declared.Decoded.TheVariants as decoded
-use Rattle.plans.specs.Refusals.{image_tests, row_tests, energy_tests, code_tests, decode_tests}
-use Rattle.plans.specs.Answers.{number_answer, decoded_answer, NumberSays, DecodedSays}
-use Rattle.plans.specs.Calls.{instance_in, accept_number_in, bits_answer_in, penalty_answer_in, constant_answer_in, row_number_in, row_part_in, row_filled, row_after_in, energy_number_in, energy_answer_in, code_number_in, code_after_in, decode_number_in, decode_answer_in, decode_after_in}
-use Rattle.plans.specs.Inner.{code_lengths, code_by, decode_bytes, decoded_by}
-use Rattle.plans.proofs.Earlier.{Numbered, Alike, Stops, alone, alike_none, stops_some}
+use Rattle.site.specs.declared.refusals.Refusal.{Refusal}
+use Rattle.site.specs.declared.refusals.Refusal.TheVariants.{NoPlan}
+use Rattle.plans.specs.Refusals.{most_bits, site_in, image_tests, row_tests, energy_tests, code_tests, decode_tests}
+use Rattle.plans.specs.Answers.{Answer, Value, Refused, answer, told, Plan}
+use Rattle.plans.specs.Calls.{instance_in, accept_number_in, bits_answer_in, penalty_answer_in, constant_answer_in, row_number_in, row_part_in, row_after_in, energy_number_in, energy_answer_in, code_number_in, code_after_in, decode_number_in, decode_answer_in, decode_after_in}
+use Rattle.plans.specs.Inner.{code_lengths, decode_bytes}
+use Rattle.plans.specs.Kinds.{kind_of, penalty_asked, instance_of}
+use Rattle.plans.proofs.ByKind.{penalty_is, asked_small, most_small}
+use Rattle.plans.proofs.Posed.{good_survey, good_margin, good_count}
+use Rattle.plans.proofs.Earlier.{Numbered, Alike, Stops, alike_none, stops_some, image_numbered}
 
--- ---- the answers that are enums, in 01's number and values
+-- ---- answers in 01's number and values
 
-number_refused : (r : ℕ) (z : ℤ) → (r ≡ 0 → ⊥) → number.Refused r ≡ number_answer r z
-number_refused zero z n = absurd (n refl)
-number_refused (suc r) z n = refl
+module _ {A : Type 0} where
+  -- a refusal is that of its number
+  pub refused_told : (e : Refusal) (r : ℕ) (z : A) → number_of e ≡ r → Refused (number_of e) ≡ answer r z
+  refused_told e zero z f = absurd (number_above e f)
+  refused_told e (suc r) z f = ap Refused f
 
-decoded_refused : (r w k : ℕ) → (r ≡ 0 → ⊥) → decoded.Refused r ≡ decoded_answer r w k
-decoded_refused zero w k n = absurd (n refl)
-decoded_refused (suc r) w k n = refl
-
-number_says : (r : ℕ) (z : ℤ) → NumberSays (number_answer r z) r z
-unfolding unless_refused
-number_says zero z = (refl, refl)
-number_says (suc r) z = (refl, sym (kept (suc r) z (pos 0) (suc-ne-zero r)))
-
-decoded_says : (r w k : ℕ) → DecodedSays (decoded_answer r w k) r w k
-unfolding unless_refused
-decoded_says zero w k = (refl, refl, refl)
-decoded_says (suc r) w k = (refl, sym (kept (suc r) w 0 (suc-ne-zero r)), sym (kept (suc r) k 0 (suc-ne-zero r)))
-
-number_said : (d : Number) (r : ℕ) (z : ℤ) → d ≡ number_answer r z → NumberSays d r z
-number_said d r z e = rw e (number_says r z)
-
-decoded_said : (d : Decoded) (r w k : ℕ) → d ≡ decoded_answer r w k → DecodedSays d r w k
-decoded_said d r w k e = rw e (decoded_says r w k)
+  -- a value is given where the number is 0
+  pub value_told : (r : ℕ) (y z : A) → r ≡ 0 → y ≡ z → Value y ≡ answer r z
+  value_told r y z e f = rw (e, f)
 
 -- ---- bit count, penalty and constant
 
 module _ (s : List ℕ) (a : Ask) where
-  -- refused, and given
-  pub number_stops : (r : ℕ) (z : ℤ) → Stops (image_tests s a) r → number.Refused r ≡ number_answer (accept_number_in s a) z
-  unfolding accept_number_in
-  number_stops r z h = rw (sym (alone (image_tests s a)) ∙ h.by []) (number_refused r z h.refused)
-
-  pub number_given : (y z : ℤ) → refusal (image_tests s a) ≡ 0 → y ≡ z → number.Value y ≡ number_answer (accept_number_in s a) z
-  unfolding accept_number_in
-  number_given y z e f = rw (e, f) refl
-
-  pub bits_said : (d : Number) → d ≡ number_answer (accept_number_in s a) (pos (instance_in s a).bits) → (d ≡ bits_answer_in s a) × NumberSays d (accept_number_in s a) (pos (instance_in s a).bits)
+  -- refused
+  pub bits_refused : (e : Refusal) → number_of e ≡ accept_number_in s a → Refused (number_of e) ≡ bits_answer_in s a
   unfolding bits_answer_in
-  bits_said d e = (e, number_said _ _ _ e)
+  bits_refused e f = refused_told e _ _ f
 
-  pub penalty_said : (d : Number) → d ≡ number_answer (accept_number_in s a) (pos (instance_in s a).penalty) → (d ≡ penalty_answer_in s a) × NumberSays d (accept_number_in s a) (pos (instance_in s a).penalty)
+  pub penalty_refused : (e : Refusal) → number_of e ≡ accept_number_in s a → Refused (number_of e) ≡ penalty_answer_in s a
   unfolding penalty_answer_in
-  penalty_said d e = (e, number_said _ _ _ e)
+  penalty_refused e f = refused_told e _ _ f
 
-  pub constant_said : (d : Number) → d ≡ number_answer (accept_number_in s a) (constant_of (instance_in s a).formula) → (d ≡ constant_answer_in s a) × NumberSays d (accept_number_in s a) (constant_of (instance_in s a).formula)
+  pub constant_refused : (e : Refusal) → number_of e ≡ accept_number_in s a → Refused (number_of e) ≡ constant_answer_in s a
   unfolding constant_answer_in
-  constant_said d e = (e, number_said _ _ _ e)
+  constant_refused e f = refused_told e _ _ f
+
+  -- and given, by the problem's instance
+  module _ (z : accept_number_in s a ≡ 0) (I : Instance) (e : I ≡ instance_in s a) where
+    pub bits_given : (b : ℕ) → b ≡ I.bits → Value b ≡ bits_answer_in s a
+    unfolding bits_answer_in
+    bits_given b f = value_told _ _ _ z (f ∙ ap (λ (J : Instance). J.bits) e)
+
+    pub penalty_given : (p : ℕ) → p ≡ I.penalty → Value p ≡ penalty_answer_in s a
+    unfolding penalty_answer_in
+    penalty_given p f = value_told _ _ _ z (f ∙ ap (λ (J : Instance). J.penalty) e)
+
+    pub constant_given : (c : ℤ) → c ≡ constant_of I.formula → Value c ≡ constant_answer_in s a
+    unfolding constant_answer_in
+    constant_given c f = value_told _ _ _ z (f ∙ ap (λ (J : Instance). constant_of J.formula) e)
+
+    -- there are at most 8,192 bits
+    pub bits_few : (b : ℕ) → b ≡ I.bits → b ≤ most_bits
+    unfolding accept_number_in
+    bits_few b f = omega (arith, f, ap (λ (J : Instance). J.bits) e, good_count s a z)
+
+    -- and A is below 2^33
+    pub penalty_below : (p : ℕ) → p ≡ I.penalty → p < 8589934592
+    unfolding accept_number_in instance_of
+    penalty_below p f = omega (arith, f, ap (λ (J : Instance). J.penalty) e, penalty_is (penalty_asked (site_in s) a) (site_in s) (kind_of a), asked_small (site_in s) (good_survey s a z) a (good_margin s a z), most_small (kind_of a))
+
+  -- where no test of image and ask applies, it is as if they were not there
+  pub accepted_alike : accept_number_in s a ≡ 0 → Alike (image_tests s a) []
+  unfolding accept_number_in
+  accepted_alike z = alike_none (image_tests s a) (image_numbered s a) z
+
+  -- where one applies, they refuse
+  pub stopped : (e : Refusal) → number_of e ≡ accept_number_in s a → Stops (image_tests s a) (number_of e)
+  unfolding accept_number_in
+  stopped e f = stops_some (image_tests s a) _ (sym f) (number_above e)
 
 -- ---- what is promised of the other calls
 
@@ -83,39 +102,40 @@ abbrev pub RowDone : List ℕ → Ask → ℕ → List ℤ → ℕ → ℕ → L
 RowDone s a i out r len then = ((r ≡ row_number_in s a i (length out)) × (len ≡ length (row_part_in s a i (length out)))) × (then ≡ row_after_in s a i out)
 
 -- the energy of the bits x
-abbrev pub EnergyDone : List ℕ → Ask → List ℕ → Number → Type 0
-EnergyDone s a x d = (d ≡ energy_answer_in s a x) × NumberSays d (energy_number_in s a x) (energy_of (instance_in s a) x)
+abbrev pub EnergyDone : List ℕ → Ask → List ℕ → Answer ℤ → Type 0
+EnergyDone s a x d = d ≡ energy_answer_in s a x
 
 -- the plan q coded into bits that were x: the refusal's number, and the bits then
 abbrev pub CodeDone : List ℕ → Ask → List ℕ → List ℕ → ℕ → List ℕ → Type 0
 CodeDone s a q x r then = (r ≡ code_number_in s a q x) × (then ≡ code_after_in s a q x)
 
 -- the bits x decoded into a plan that was q: the answer, and the plan then
-abbrev pub DecodeDone : List ℕ → Ask → List ℕ → List ℕ → Decoded → List ℕ → Type 0
-DecodeDone s a x q d then = (d ≡ decode_answer_in s a x q) × ((then ≡ decode_after_in s a x q) × DecodedSays d (decode_number_in s a x q) ((instance_in s a).weight ((instance_in s a).decoded x)) ((instance_in s a).repaired x))
+abbrev pub DecodeDone : List ℕ → Ask → List ℕ → List ℕ → Answer Decoded → List ℕ → Type 0
+DecodeDone s a x q d then = (d ≡ decode_answer_in s a x q) × (then ≡ decode_after_in s a x q)
 
 -- ---- refused by r: nothing lent is altered
+
+-- an answer that is refused
+answer_refused : {A : Type 0} (r : ℕ) (z : A) → (r ≡ 0 → ⊥) → Refused r ≡ answer r z
+answer_refused zero z n = absurd (n refl)
+answer_refused (suc r) z n = refl
 
 module _ (s : List ℕ) (a : Ask) (r : ℕ) (n : r ≡ 0 → ⊥) where
   row_refused : (i : ℕ) (out : List ℤ) → row_number_in s a i (length out) ≡ r → RowDone s a i out r 0 out
   unfolding row_part_in row_after_in
   row_refused i out e = rw e ((refl, ap length (sym (kept {A = List ℤ} r _ [] n))), sym (kept r _ out n))
 
-  energy_refused : (x : List ℕ) → energy_number_in s a x ≡ r → EnergyDone s a x (number.Refused r)
+  energy_refused : (x : List ℕ) → energy_number_in s a x ≡ r → EnergyDone s a x (Refused r)
   unfolding energy_answer_in
-  energy_refused x e =
-      let d : number.Refused r ≡ number_answer (energy_number_in s a x) (energy_of (instance_in s a) x) = rw e (number_refused r _ n) in
-      (d, number_said _ _ _ d)
+  energy_refused x e = rw e (answer_refused r _ n)
 
   code_refused : (q x : List ℕ) → code_number_in s a q x ≡ r → CodeDone s a q x r x
   unfolding code_after_in
   code_refused q x e = rw e (refl, sym (kept r _ x n))
 
-  decode_refused : (x q : List ℕ) → decode_number_in s a x q ≡ r → DecodeDone s a x q (decoded.Refused r) q
+  decode_refused : (x q : List ℕ) → decode_number_in s a x q ≡ r → DecodeDone s a x q (Refused r) q
   unfolding decode_answer_in decode_after_in
-  decode_refused x q e =
-      let d : decoded.Refused r ≡ decoded_answer (decode_number_in s a x q) ((instance_in s a).weight ((instance_in s a).decoded x)) ((instance_in s a).repaired x) = rw e (decoded_refused r _ _ n) in
-      (d, (rw e (sym (kept r _ q n)), decoded_said _ _ _ _ d))
+  decode_refused x q e = rw e (answer_refused r _ n, sym (kept r _ q n))
 
 -- by an earlier test
 module _ (s : List ℕ) (a : Ask) (r : ℕ) (h : Stops (image_tests s a) r) where
@@ -123,7 +143,7 @@ module _ (s : List ℕ) (a : Ask) (r : ℕ) (h : Stops (image_tests s a) r) wher
   unfolding row_number_in
   row_stops i out = row_refused s a r h.refused i out (h.by _)
 
-  pub energy_stops : (x : List ℕ) → EnergyDone s a x (number.Refused r)
+  pub energy_stops : (x : List ℕ) → EnergyDone s a x (Refused r)
   unfolding energy_number_in
   energy_stops x = energy_refused s a r h.refused x (h.by _)
 
@@ -131,7 +151,7 @@ module _ (s : List ℕ) (a : Ask) (r : ℕ) (h : Stops (image_tests s a) r) wher
   unfolding code_number_in
   code_stops q x = code_refused s a r h.refused q x (h.by _)
 
-  pub decode_stops : (x q : List ℕ) → DecodeDone s a x q (decoded.Refused r) q
+  pub decode_stops : (x q : List ℕ) → DecodeDone s a x q (Refused r) q
   unfolding decode_number_in
   decode_stops x q = decode_refused s a r h.refused x q (h.by _)
 
@@ -176,14 +196,12 @@ module _ (s : List ℕ) (a : Ask) (alike : Alike (image_tests s a) []) (b : ℕ)
     unfolding energy_number_in
     energy_number = alike _ ∙ sym (h ∙ ap (λ (c : ℕ). refusal (energy_tests c x)) e)
 
-    pub energy_tested : (r ≡ 0 → ⊥) → EnergyDone s a x (number.Refused r)
+    pub energy_tested : (r ≡ 0 → ⊥) → EnergyDone s a x (Refused r)
     energy_tested n = energy_refused s a r n x energy_number
 
-    pub energy_given : r ≡ 0 → (J : Instance) → J ≡ I → (y z : ℤ) → y ≡ z → z ≡ energy_of J x → EnergyDone s a x (number.Value y)
+    pub energy_given : r ≡ 0 → (J : Instance) → J ≡ I → (z : ℤ) → z ≡ energy_of J x → EnergyDone s a x (Value z)
     unfolding energy_answer_in
-    energy_given q J f y z k g =
-        let d : number.Value y ≡ number_answer (energy_number_in s a x) (energy_of I x) = rw (energy_number ∙ q) (ap number.Value (k ∙ g ∙ ap (λ (K : Instance). energy_of K x) f)) in
-        (d, number_said _ _ _ d)
+    energy_given q J f z g = value_told _ _ _ (energy_number ∙ q) (g ∙ ap (λ (K : Instance). energy_of K x) f)
 
   -- ---- plans of N bytes
 
@@ -200,7 +218,7 @@ module _ (s : List ℕ) (a : Ask) (alike : Alike (image_tests s a) []) (b : ℕ)
       unfolding code_number_in
       code_tested n = code_refused s a r n q x (alike _ ∙ code_first ∙ (stops_some _ r (sym h) n).by _)
 
-      module _ (z : r ≡ 0) (J : Instance) (g : J ≡ I) (t : Bool) (is : t ≡ J.is_plan q) (then : List ℕ) (by : then ≡ code_by J q x) where
+      module _ (z : r ≡ 0) (J : Instance) (g : J ≡ I) (t : Bool) (is : t ≡ J.is_plan q) (then : List ℕ) (by : then ≡ code_after J q x) where
         code_number : code_number_in s a q x ≡ refusal ((12, not (I.is_plan q)) ∷ [])
         unfolding code_number_in
         code_number = alike _ ∙ code_first ∙ alike_none (code_lengths b N (length q) (length x)) (lengths_numbered b N (length q) (length x)) (sym h ∙ z) _
@@ -209,7 +227,7 @@ module _ (s : List ℕ) (a : Ask) (alike : Alike (image_tests s a) []) (b : ℕ)
         is_plan_fact = is ∙ ap (λ (K : Instance). K.is_plan q) g
 
         is_coded : then ≡ cond t (I.code_of q) x
-        unfolding code_by
+        unfolding code_after
         is_coded = by ∙ rw (g, is_plan_fact) refl
 
         pub code_no_plan : not t ≡ true → CodeDone s a q x 12 then
@@ -231,7 +249,7 @@ module _ (s : List ℕ) (a : Ask) (alike : Alike (image_tests s a) []) (b : ℕ)
       unfolding decode_tests decode_bytes
       decode_first = rw (e, f) refl
 
-      pub decode_tested : (r ≡ 0 → ⊥) → DecodeDone s a x q (decoded.Refused r) q
+      pub decode_tested : (r ≡ 0 → ⊥) → DecodeDone s a x q (Refused r) q
       unfolding decode_number_in
       decode_tested n = decode_refused s a r n x q (alike _ ∙ decode_first ∙ (stops_some _ r (sym h) n).by _)
 
@@ -240,20 +258,42 @@ module _ (s : List ℕ) (a : Ask) (alike : Alike (image_tests s a) []) (b : ℕ)
         unfolding decode_number_in
         decode_number = alike _ ∙ decode_first ∙ alike_none (decode_bytes b N x (length q)) (bytes_numbered b N x (length q)) (sym h ∙ z) _
 
-        decode_go : (v : Bool) → I.decodes x ≡ v
-            → DecodeDone s a x q (cond v (decoded.Plan (I.weight (I.decoded x)) (I.repaired x)) (decoded.Refused 12)) (cond v (I.decoded x) q)
+        decode_go : (v : Bool) → I.decodes x ≡ v → DecodeDone s a x q (cond v (Plan (I.weight (I.decoded x)) (I.repaired x)) (Refused 12)) (cond v (I.decoded x) q)
         unfolding decode_answer_in decode_after_in
         decode_go true d =
             let g : decode_number_in s a x q ≡ 0 = decode_number ∙ refusal_last 12 _ (ap not d) in
-            let k : decoded.Plan (I.weight (I.decoded x)) (I.repaired x) ≡ decoded_answer (decode_number_in s a x q) (I.weight (I.decoded x)) (I.repaired x) = rw g refl in
-            (k, (sym (done (decode_number_in s a x q) _ q g), decoded_said _ _ _ _ k))
+            (value_told _ _ _ g refl, sym (done (decode_number_in s a x q) _ q g))
         decode_go false d = decode_refused s a 12 (suc-ne-zero 11) x q (decode_number ∙ refusal_here 12 _ _ (ap not d))
 
-        pub decode_given : (J : Instance) → J ≡ I → (d : Decoded) (then : List ℕ) → (d ≡ decoded_by J x) × (then ≡ plan_after J x q) → DecodeDone s a x q d then
-        unfolding decoded_by plan_after
-        decode_given J g d then p = rw (p.0, p.1, g) (decode_go (I.decodes x) refl)
+        decode_said : (v : Bool) → DecodeDone s a x q (cond v (Plan (I.weight (I.decoded x)) (I.repaired x)) (Refused 12)) (cond v (I.decoded x) q)
+            → DecodeDone s a x q (told (ok_or (cond v (Some (record { weight = I.weight (I.decoded x); repaired = I.repaired x })) None) NoPlan)) (cond v (I.decoded x) q)
+        decode_said true h = h
+        decode_said false h = h
+
+        pub decode_given : (J : Instance) → J ≡ I → (d : Option Decoded) (then : List ℕ) → d ≡ answer_of J x → then ≡ plan_after J x q → DecodeDone s a x q (told (ok_or d NoPlan)) then
+        unfolding answer_of plan_after
+        decode_given J g d then p t = rw (p, t, g) (decode_said (I.decodes x) (decode_go (I.decodes x) refl))
+
+-- ---- what the code has in hand of a problem's instance
+
+pub bits_in : {I J : Instance} → I ≡ J → (b : ℕ) → b ≡ I.bits → b ≡ J.bits
+bits_in e b f = f ∙ ap (λ (K : Instance). K.bits) e
+
+pub bytes_in : {I J : Instance} → I ≡ J → (n : ℕ) → n ≡ I.plan_bytes → n ≡ J.plan_bytes
+bytes_in e n f = f ∙ ap (λ (K : Instance). K.plan_bytes) e
+
+pub assignment_in : {b c : ℕ} {x : List ℕ} → b ≡ c → Assignment b x → Assignment c x
+assignment_in {b} {c} {x} e h = subst (λ (n : ℕ). Assignment n x) e h
 
 -- ---- the row comes back as the front part of the slice
+
+-- its length, 0 where it is refused
+pub row_len : (s : List ℕ) (a : Ask) (i : ℕ) (out : List ℤ) (r : Result ℕ Refusal)
+    → MatchResult r (λ len. (row_number_in s a i (length out) ≡ 0) × (len ≡ length (row_part_in s a i (length out)))) (λ e. number_of e ≡ row_number_in s a i (length out))
+    → result_unwrap_or r 0 ≡ length (row_part_in s a i (length out))
+unfolding row_part_in
+row_len s a i out (Ok len) h = h.1
+row_len s a i out (Err e) h = ap length (sym (kept {A = List ℤ} (row_number_in s a i (length out)) _ [] (λ z. number_above e (h ∙ z))))
 
 take_front : (xs ys : List ℤ) → take (length xs) (xs ++ ys) ≡ xs
 take_front [] ys = refl
@@ -261,7 +301,7 @@ take_front (x ∷ xs) ys = ap (λ (t : List ℤ). x ∷ t) (take_front xs ys)
 
 pub row_front : (s : List ℕ) (a : Ask) (i : ℕ) (out : List ℤ) (len : ℕ) (then : List ℤ) → len ≡ length (row_part_in s a i (length out)) → then ≡ row_after_in s a i out
     → take len then ≡ row_part_in s a i (length out)
-unfolding row_part_in row_filled row_after_in unless_refused
+unfolding row_part_in row_after_in unless_refused
 row_front s a i out len then p q = rw (p, q) (go (eqb (row_number_in s a i (length out)) 0) _ _ _)
   where
     go : (b : Bool) (xs ys zs : List ℤ) → take (length (cond b xs [])) (cond b (xs ++ ys) zs) ≡ cond b xs []

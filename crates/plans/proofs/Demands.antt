@@ -8,7 +8,8 @@ use lib.ListN.{length}
 use lib.IntN.{ℤ, pos}
 use lib.Signed.{◌≤ℤ◌, ◌<ℤ◌}
 use native.Mathlib.Omega.{arith}
-use Rattle.links.specs.Links.{Link, total}
+use Rattle.links.specs.Links.{total}
+use Rattle.links.specs.declared.Link.{Link}
 use Rattle.qubo.specs.Formula.{Assignment}
 use Rattle.qubo.specs.Table.{row_of, table_of, energy, table_abs}
 use Rattle.qubo.specs.Instance.{Instance, table_is, energy_of, LeastEnergy, CodesPlan, LeastPlan, CodesLeast}
@@ -39,8 +40,7 @@ use Rattle.tree.proofs.Asking as tree-asking
 use Rattle.tree.proofs.Demands as tree
 use Rattle.plans.specs.declared.Ask.{Ask}
 use Rattle.plans.specs.declared.Kind.TheVariants.{Channels, Groups, Tree}
-use Rattle.plans.specs.declared.Number.TheVariants.{Value}
-use Rattle.plans.specs.declared.Decoded.TheVariants.{Plan}
+use Rattle.plans.specs.Answers.{Value, Plan}
 use Rattle.plans.specs.Kinds.{kind_of, limits_hold, penalty_of, penalty_asked, instance_by, instance_of}
 use Rattle.plans.specs.Refusals.{ask_tests, count_tests, kind_tests, site_in, image_tests, row_tests, energy_tests, code_tests, decode_tests}
 use Rattle.plans.specs.Calls.{instance_in, accept_number_in, penalty_answer_in, constant_answer_in, row_number_in, row_part_in, row_after_in, energy_number_in, energy_answer_in, code_number_in, code_after_in, decode_number_in, decode_answer_in, decode_after_in}
@@ -128,7 +128,7 @@ module _ (s : List ℕ) (a : Ask) (ok : Accepted s a) where
   energy_given x b = rw (energy_accepts s a ok x b, table_energy x b)
 
   -- A is 01's, with "a margin from 0 to 1,000,000 that is added to A in all kinds" (02, S-7), and the call gives it: "every threshold means the raised A"
-  pub penalty_given : (I.penalty ≡ penalty_of (site_in s) (kind_of a) + a.margin) × (penalty_answer_in s a ≡ Value (pos I.penalty))
+  pub penalty_given : (I.penalty ≡ penalty_of (site_in s) (kind_of a) + a.margin) × (penalty_answer_in s a ≡ Value I.penalty)
   unfolding instance_of penalty_asked penalty_answer_in
   penalty_given = (sym (penalty_is _ (site_in s) (kind_of a)), rw ok)
 

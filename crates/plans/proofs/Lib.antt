@@ -3,7 +3,6 @@ pub mod ByKind
 pub mod Earlier
 pub mod Refusing
 pub mod Posed
-pub mod Dispatch
 pub mod Calling
 pub mod Accepted
 pub mod Demands

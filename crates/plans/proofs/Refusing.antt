@@ -8,6 +8,7 @@ use lib.Dec.{eqb, leb}
 use native.Mathlib.Omega.{arith}
 use native.Mathlib.Decide.{dec_le}
 use borrow.Author.Count.{below_more}
+use Rattle.std.specs.Prelude.{max}
 use borrow.Author.Tests.{le-leb, lt-leb, leb-true, leb-false, lt-ltb, le-ltb, ltb-false, eq-eqb, ne_eqb, eqb-true, not-false}
 use Rattle.lists.specs.Tests.{all}
 use Rattle.lists.proofs.Tests.{and_left, and_right, and_both, or_right}
@@ -15,13 +16,42 @@ use Rattle.qubo.specs.Formula.{Bits, Assignment}
 use Rattle.site.specs.Refusal.{refusal}
 use Rattle.site.proofs.Refused.{refusal_here, refusal_next, refusal_last, refusal_none}
 use Rattle.plans.specs.declared.Ask.{Ask}
+use Rattle.plans.specs.declared.Kind.{Kind}
+use Rattle.plans.specs.declared.Kind.TheVariants.{Channels, Groups, Tree}
 use Rattle.plans.specs.Kinds.{kind_of, limits_hold}
 use Rattle.plans.specs.Refusals.{most_bits, most_margin, bad_kind, are_bits, ask_tests, count_tests, row_tests, energy_tests}
 use Rattle.plans.specs.Inner.{code_lengths, decode_bytes}
 
 -- ---- what is asked
 
+-- the kind that is asked for, by its number
+pub kind_1 : (a : Ask) (k : Kind) → k ≡ Channels a.parameter → a.kind ≡ 1 → k ≡ kind_of a
+unfolding kind_of
+kind_1 a k e h = rw (e, h) refl
+
+pub kind_2 : (a : Ask) (k : Kind) → k ≡ Groups a.parameter → a.kind ≡ 2 → k ≡ kind_of a
+unfolding kind_of
+kind_2 a k e h = rw (e, h) refl
+
+pub kind_3 : (a : Ask) (k : Kind) → k ≡ Tree a.parameter → a.kind ≡ 3 → k ≡ kind_of a
+unfolding kind_of
+kind_3 a k e h = rw (e, h) refl
+
 module _ (N : ℕ) (a : Ask) where
+  -- no other number is a kind's
+  pub kind_none : (a.kind ≡ 1 → ⊥) → (a.kind ≡ 2 → ⊥) → (a.kind ≡ 3 → ⊥) → bad_kind N a ≡ true
+  unfolding bad_kind
+  kind_none e f g =
+      elim (dec_le 1 a.kind) [
+        | yes h ↦ rw (le-leb 1 a.kind h, lt-leb a.kind 3 (omega arith))
+        | no h ↦ rw (lt-leb 1 a.kind (omega arith))
+      ]
+
+  -- and a kind's limits tell
+  pub kind_tells : (k : Kind) {t v : Bool} → k ≡ kind_of a → (1 ≤ a.kind) × (a.kind ≤ 3) → t ≡ limits_hold N k → t ≡ v → bad_kind N a ≡ not v
+  unfolding bad_kind
+  kind_tells k e h f g = rw (le-leb 1 a.kind h.0, le-leb a.kind 3 h.1, ← e, ← f, g)
+
   pub ask_bad : bad_kind N a ≡ true → 7 ≡ refusal (ask_tests N a)
   unfolding ask_tests
   ask_bad e = sym (refusal_here 7 _ _ e)
@@ -89,11 +119,11 @@ pub topped_start : (x : List ℕ) → Topped x 0 0
 topped_start x = record { within = λ k h. absurd (omega arith); reached = λ h. absurd (omega arith) }
 
 -- a byte more: the greater of the two
-pub topped_more : (x : List ℕ) (i top : ℕ) → Topped x i top → top < get_or x i 0 → Topped x (i + 1) (get_or x i 0)
-topped_more x i top t h = record { within = below_more (λ k. get_or x k 0 ≤ get_or x i 0) i (λ k l. omega (arith, t.within k l)) (omega arith); reached = are_no_bits x i }
-
-pub topped_same : (x : List ℕ) (i top : ℕ) → Topped x i top → get_or x i 0 ≤ top → Topped x (i + 1) top
-topped_same x i top t h = record { within = below_more (λ k. get_or x k 0 ≤ top) i t.within h; reached = t.reached }
+pub topped_more : (x : List ℕ) (i top : ℕ) → Topped x i top → Topped x (i + 1) (max top (get_or x i 0))
+topped_more x i top t = record {
+  within = below_more (λ k. get_or x k 0 ≤ max top (get_or x i 0)) i (λ k l. omega (arith, t.within k l)) (omega arith);
+  reached = λ h. elim (dec_le top 1) [ yes l ↦ are_no_bits x i (omega arith) | no l ↦ t.reached (omega arith) ];
+}
 
 pub topped_end : (x : List ℕ) (i top : ℕ) → i ≡ length x → Topped x i top → leb top 1 ≡ are_bits x
 topped_end x i top e t =

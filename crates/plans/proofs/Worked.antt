@@ -11,8 +11,9 @@ use borrow.Author.Tests.{eqb-true, eqb-false, leb-true, not-true}
 use Rattle.lists.specs.Tests.{every, any, all, from, alike}
 use Rattle.lists.specs.Sums.{sum_to, sum_of, greatest, least_at, lowest, same, differ, nth}
 use Rattle.lists.proofs.Tests.{and_left, and_right, all_member, alike_same}
-use Rattle.links.specs.Links.{Link, link_ok, before, ascending_from, ascending, total, is_at, has_ends, present}
-use Rattle.links.specs.Survey.{Survey}
+use Rattle.links.specs.Links.{link_ok, before, ascending_from, ascending, total, is_at, has_ends, present}
+use Rattle.links.specs.declared.Link.{Link}
+use Rattle.links.specs.Survey.{IsSurvey}
 use Rattle.qubo.specs.Instance.{Instance, energy_of, LeastPlan}
 use Rattle.qubo.specs.Table.{constant_of, pair_of, row_of}
 use Rattle.onehot.specs.Choices.{bit_at, set_at, one_hots, are_choices, code}
@@ -131,7 +132,7 @@ among_in p (q ∷ qs) t = pick (alike p q) refl t (among_in p qs)
     pick true h u later = Memᴰ.head (alike_same p q h)
     pick false h u later = Memᴰ.tail (later u)
 
-module _ (N : ℕ) (ls : List Link) (s : Survey N ls) (A : ℕ) where
+module _ (N : ℕ) (ls : List Link) (s : IsSurvey N ls) (A : ℕ) where
   abbrev site : Site
   site = record { meters = N; links = ls }
 
@@ -227,7 +228,7 @@ entry_shown e t l i =
     let r4 = and_right (all (link_ok N) ls) _ r3 in
     let r5 = and_right (ascending ls) _ r4 in
     let r6 = and_right (limits_hold N k) _ r5 in
-    let v : Survey N ls = record {
+    let v : IsSurvey N ls = record {
       meters_low = leb-true 1 N (and_left (leb 1 N) _ t);
       meters_high = leb-true N 48 (and_left (leb N 48) _ r1);
       few = leb-true (length ls) 256 (and_left (leb (length ls) 256) _ r2);

@@ -1,14 +1,14 @@
 -- What the public calls give, and all lent bytes that they leave, of the bytes s of an image and what is asked, whatever these are. Begin, add and remove are those of crate `site`. Assumes nothing.
-use Rattle.std.specs.Prelude.{ℕ, ◌-◌, List, [], ◌++◌, length, drop, ℤ, pos}
+use Rattle.std.specs.Prelude.{ℕ, List, [], ◌++◌, length, ℤ}
 use Rattle.qubo.specs.Table.{constant_of, row_of}
 use Rattle.qubo.specs.Instance.{Instance, energy_of}
 use Rattle.site.specs.Refusal.{refusal, unless_refused}
 use Rattle.plans.specs.declared.Ask.{Ask}
-use Rattle.plans.specs.declared.Number.{Number}
-use Rattle.plans.specs.declared.Decoded.{Decoded}
+use Rattle.qubo.specs.Decoding.{row_filled}
+use Rattle.qubo.specs.declared.problem.Decoded.{Decoded}
 use Rattle.plans.specs.Kinds.{instance_of}
 use Rattle.plans.specs.Refusals.{site_in, image_tests, row_tests, energy_tests, code_tests, decode_tests}
-use Rattle.plans.specs.Answers.{number_answer, decoded_answer}
+use Rattle.plans.specs.Answers.{Answer, answer}
 
 -- the instance
 abbrev pub instance_in : List ℕ → Ask → Instance
@@ -21,16 +21,16 @@ unfoldable pub accept_number_in : List ℕ → Ask → ℕ
 accept_number_in s a = refusal (image_tests s a)
 
 -- the bit count, or the refusal
-unfoldable pub bits_answer_in : List ℕ → Ask → Number
-bits_answer_in s a = number_answer (accept_number_in s a) (pos (instance_in s a).bits)
+unfoldable pub bits_answer_in : List ℕ → Ask → Answer ℕ
+bits_answer_in s a = answer (accept_number_in s a) (instance_in s a).bits
 
 -- A, or the refusal
-unfoldable pub penalty_answer_in : List ℕ → Ask → Number
-penalty_answer_in s a = number_answer (accept_number_in s a) (pos (instance_in s a).penalty)
+unfoldable pub penalty_answer_in : List ℕ → Ask → Answer ℕ
+penalty_answer_in s a = answer (accept_number_in s a) (instance_in s a).penalty
 
 -- the constant, or the refusal
-unfoldable pub constant_answer_in : List ℕ → Ask → Number
-constant_answer_in s a = number_answer (accept_number_in s a) (constant_of (instance_in s a).formula)
+unfoldable pub constant_answer_in : List ℕ → Ask → Answer ℤ
+constant_answer_in s a = answer (accept_number_in s a) (constant_of (instance_in s a).formula)
 
 -- ---- row i in a slice with that much room
 
@@ -42,11 +42,7 @@ row_number_in s a i room = refusal (image_tests s a ++ row_tests (instance_in s 
 unfoldable pub row_part_in : List ℕ → Ask → ℕ → ℕ → List ℤ
 row_part_in s a i room = unless_refused (row_number_in s a i room) (row_of (instance_in s a).formula (instance_in s a).bits i) []
 
--- row i in front of a slice: "the rest of the slice is unaltered"
-unfoldable pub row_filled : Instance → ℕ → List ℤ → List ℤ
-row_filled I i out = row_of I.formula I.bits i ++ drop (I.bits - i) out
-
--- the lent slice afterwards
+-- the lent slice afterwards: row i in front of it, "the rest of the slice is unaltered"
 unfoldable pub row_after_in : List ℕ → Ask → ℕ → List ℤ → List ℤ
 row_after_in s a i out = unless_refused (row_number_in s a i (length out)) (row_filled (instance_in s a) i out) out
 
@@ -57,8 +53,8 @@ unfoldable pub energy_number_in : List ℕ → Ask → List ℕ → ℕ
 energy_number_in s a x = refusal (image_tests s a ++ energy_tests (instance_in s a).bits x)
 
 -- the energy, or the refusal
-unfoldable pub energy_answer_in : List ℕ → Ask → List ℕ → Number
-energy_answer_in s a x = number_answer (energy_number_in s a x) (energy_of (instance_in s a) x)
+unfoldable pub energy_answer_in : List ℕ → Ask → List ℕ → Answer ℤ
+energy_answer_in s a x = answer (energy_number_in s a x) (energy_of (instance_in s a) x)
 
 -- ---- the plan q coded into the lent bits x
 
@@ -77,8 +73,8 @@ unfoldable pub decode_number_in : List ℕ → Ask → List ℕ → List ℕ →
 decode_number_in s a x q = refusal (image_tests s a ++ decode_tests (instance_in s a) x q)
 
 -- the weight of the plan and the number repaired, or the refusal
-unfoldable pub decode_answer_in : List ℕ → Ask → List ℕ → List ℕ → Decoded
-decode_answer_in s a x q = decoded_answer (decode_number_in s a x q) ((instance_in s a).weight ((instance_in s a).decoded x)) ((instance_in s a).repaired x)
+unfoldable pub decode_answer_in : List ℕ → Ask → List ℕ → List ℕ → Answer Decoded
+decode_answer_in s a x q = answer (decode_number_in s a x q) (record { weight = (instance_in s a).weight ((instance_in s a).decoded x); repaired = (instance_in s a).repaired x })
 
 -- the lent plan afterwards
 unfoldable pub decode_after_in : List ℕ → Ask → List ℕ → List ℕ → List ℕ

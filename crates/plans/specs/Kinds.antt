@@ -1,6 +1,6 @@
 -- What document 01 says of each kind, by cases of the kind: its limits, its penalty, and its instance. Each case is the definition in that kind's own crate. Assumes nothing.
 use Rattle.std.specs.Prelude.{ℕ, ◌+◌, Bool, cond, List, eqb}
-use Rattle.links.specs.Links.{Link, links_of}
+use Rattle.links.specs.declared.Link.{Link}
 use Rattle.qubo.specs.Instance.{Instance}
 use Rattle.channels.specs.Formula as channels
 use Rattle.channels.specs.Instance as channels-instance
@@ -16,10 +16,6 @@ use Rattle.plans.specs.declared.Kind.TheVariants.{Channels, Groups, Tree}
 pub record Site : Type 0 where
   pub meters : ℕ
   pub links : List Link
-
--- with the links in three arrays
-abbrev pub site_of : ℕ → List ℕ → List ℕ → List ℕ → Site
-site_of N us vs ws = record { meters = N; links = links_of us vs ws }
 
 -- "Kind 1, channels, carries n", "kind 2, groups, carries m", "kind 3, tree, carries a neighbour limit d": the kind that is asked for. Any other number is refused by 7
 unfoldable pub kind_of : Ask → Kind

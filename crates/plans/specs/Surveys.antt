@@ -1,7 +1,7 @@
 -- "Surveys worked through": those that document 01 marks P, in one table, and behind them one of our own for 02. proofs/Worked.antt shows each line. Assumes nothing.
 use Rattle.std.specs.Prelude.{ℕ, ◌≡◌, true, length, ℤ, pos, negsuc, ◌≤ℤ◌}
 use mathlib.Core.List.{List, [], ◌∷◌, Memᴰ}
-use Rattle.links.specs.Links.{Link}
+use Rattle.links.specs.declared.Link.{Link}
 use Rattle.qubo.specs.Formula.{Assignment}
 use Rattle.qubo.specs.Table.{constant_of, pair_of, row_of}
 use Rattle.qubo.specs.Instance.{Instance, energy_of, LeastEnergy}

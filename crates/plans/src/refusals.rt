@@ -1,10 +1,11 @@
-// The tests of the table of refusals, in the order of trial: each function gives the number of the first of its tests that applies, or 0.
-ghost use Rattle.std.specs.Prelude.{◌≡◌};
-ghost use Rattle.site.specs.Refusal.{refusal};
-ghost use Rattle.plans.specs.Refusals.{bad_kind, are_bits, ask_tests, count_tests, row_tests, energy_tests};
+// The tests of the table of refusals, in the order of trial: each function gives the first of its refusals that applies.
+ghost use Rattle.std.specs.Prelude.{◌≡◌, MatchResult};
+ghost use Rattle.site.specs.Refusal.{refusal, number_of, number_told};
+ghost use Rattle.plans.specs.Kinds.{kind_of};
+ghost use Rattle.plans.specs.Refusals.{are_bits, ask_tests, count_tests, row_tests, energy_tests};
 ghost use Rattle.plans.specs.Inner.{code_lengths, decode_bytes};
 
-use crate::{Ask, kinds};
+use crate::{Ask, Kind, Refusal, kinds};
 
 // The most bits that a table may have.
 const MOST_BITS: usize = 8192;
@@ -12,55 +13,41 @@ const MOST_BITS: usize = 8192;
 // The greatest margin.
 const MOST_MARGIN: u64 = 1000000;
 
-// Whether 7 applies.
-fn is_bad(ask: Ask, meters: usize) -> bool
-    ensures { result ≡ bad_kind meters ask }
+/// The kind that is asked for of a site of so many meters. Refused by 7 or 18.
+pub(crate) fn of_ask(ask: Ask, meters: usize) -> Result<Kind, Refusal>
+    ensures { MatchResult result (λ k. (refusal (ask_tests meters ask) ≡ 0) × (k ≡ kind_of ask)) (λ r. number_of r ≡ refusal (ask_tests meters ask)) }
 {
-    let kind = ask.kind;
-    if kind < 1 {
-        return true;
-    }
-    if 3 < kind {
-        return true;
-    }
-    !kinds::allows(kinds::kind_of(ask), meters)
-}
-
-// What is asked of a site of so many meters: 7, 18.
-pub(crate) fn of_ask(ask: Ask, meters: usize) -> u64
-    ensures { result ≡ refusal (ask_tests meters ask) }
-{
-    if is_bad(ask, meters) {
-        return 7;
-    }
+    let Some(kind) = kinds::kind_of(ask, meters) else {
+        return Err(Refusal::Kind);
+    };
     if MOST_MARGIN < ask.margin {
-        return 18;
+        return Err(Refusal::Margin);
     }
-    0
+    Ok(kind)
 }
 
-// A table of so many bits: 8.
+/// A table of so many bits: 8.
 #[tactic(auto, using(crate::proofs::Refusing::count_many, crate::proofs::Refusing::count_fine))]
-pub(crate) fn of_count(bits: usize) -> u64
-    ensures { result ≡ refusal (count_tests bits) }
+pub(crate) fn of_count(bits: usize) -> Result<(), Refusal>
+    ensures { number_told result ≡ refusal (count_tests bits) }
 {
     if MOST_BITS < bits {
-        return 8;
+        return Err(Refusal::Bits);
     }
-    0
+    Ok(())
 }
 
-// Row i in a slice with that much room: 10, which comes first, and 9.
-pub(crate) fn of_row(bits: usize, i: u64, room: usize) -> u64
-    ensures { result ≡ refusal (row_tests bits i room) }
+/// Row i in a slice with that much room: 10, which comes first, and 9.
+pub(crate) fn of_row(bits: usize, i: u64, room: usize) -> Result<(), Refusal>
+    ensures { number_told result ≡ refusal (row_tests bits i room) }
 {
     if (bits as u64) <= i {
-        return 10;
+        return Err(Refusal::Row);
     }
     if room < bits - (i as usize) {
-        return 9;
+        return Err(Refusal::Length);
     }
-    0
+    Ok(())
 }
 
 // Whether each lent byte is 0 or 1: whether the greatest is. The loop goes through all of them, many bytes at a time.
@@ -68,48 +55,51 @@ fn are_bits(bits: &[u8]) -> bool
     ensures { result ≡ are_bits bits.now }
 {
     let mut top: u8 = 0;
-    let mut i = 0;
-    while i < bits.len() {
-        if top < bits[i] {
-            top = bits[i];
-        }
-        i += 1;
+    for bit in bits {
+        top = top.max(*bit);
     }
     top <= 1
 }
 
-// The energy of lent bits, of which so many are needed: 9, 11.
-pub(crate) fn of_energy(needed: usize, bits: &[u8]) -> u64
-    ensures { result ≡ refusal (energy_tests needed bits.now) }
+/// The energy of lent bits, of which so many are needed: 9, 11.
+pub(crate) fn of_energy(needed: usize, bits: &[u8]) -> Result<(), Refusal>
+    ensures { number_told result ≡ refusal (energy_tests needed bits.now) }
 {
     if bits.len() != needed {
-        return 9;
+        return Err(Refusal::Length);
     }
     if !are_bits(bits) {
-        return 11;
+        return Err(Refusal::NotBits);
     }
-    0
+    Ok(())
 }
 
-// A plan of that length to be coded into so many lent bits: 9. Whether it is a plan is seen when it is coded.
-pub(crate) fn of_lengths(needed: usize, meters: usize, plan: usize, bits: usize) -> u64
-    ensures { result ≡ refusal (code_lengths needed meters plan bits) }
+/// A plan of that length to be coded into so many lent bits: 9. Whether it is a plan is seen when it is coded.
+pub(crate) fn of_lengths(
+    needed: usize,
+    plan_bytes: usize,
+    plan: usize,
+    bits: usize,
+) -> Result<(), Refusal>
+    ensures { number_told result ≡ refusal (code_lengths needed plan_bytes plan bits) }
 {
-    if plan != meters {
-        return 9;
+    if plan != plan_bytes || bits != needed {
+        return Err(Refusal::Length);
     }
-    if bits != needed {
-        return 9;
-    }
-    0
+    Ok(())
 }
 
-// Lent bits to be decoded into a lent plan of that length: 9, 11. Whether they code a plan is seen when they are decoded.
-pub(crate) fn of_decoding(needed: usize, meters: usize, bits: &[u8], plan: usize) -> u64
-    ensures { result ≡ refusal (decode_bytes needed meters bits.now plan) }
+/// Lent bits to be decoded into a lent plan of that length: 9, 11. Whether they code a plan is seen when they are decoded.
+pub(crate) fn of_decoding(
+    needed: usize,
+    plan_bytes: usize,
+    bits: &[u8],
+    plan: usize,
+) -> Result<(), Refusal>
+    ensures { number_told result ≡ refusal (decode_bytes needed plan_bytes bits.now plan) }
 {
-    if plan != meters {
-        return 9;
+    if plan != plan_bytes {
+        return Err(Refusal::Length);
     }
     of_energy(needed, bits)
 }

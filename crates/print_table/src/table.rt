@@ -1,5 +1,5 @@
 // The table that an input asks for, as lines of text.
-use plans::{Ask, Number};
+use plans::{Ask, Refusal};
 use std::alloc::Global;
 use std::io;
 use std::io::Write;
@@ -7,39 +7,28 @@ use std::io::Write;
 /// An input has so many bytes: an image of 2,064, and then a kind and its parameter.
 pub const INPUT: u64 = 2066;
 
-// The refusal of bytes that are no image.
-const NO_IMAGE: u64 = 1;
-
 /// A table that the library gives: its image and what is asked of it, the bit count and the constant.
 #[derive(Clone, Copy)]
 struct Table<'a> {
     image: &'a [u8],
     ask: Ask,
-    bits: i64,
+    bits: usize,
     constant: i64,
 }
 
-// The value, or the number of the refusal.
-fn value(given: Number) -> Result<i64, u64> {
-    match given {
-        Number::Value(z) => Ok(z),
-        Number::Refused(number) => Err(number),
-    }
-}
-
 impl<'a> Table<'a> {
-    // The table that an input asks for, with no margin, or the number of the refusal.
-    fn of(input: &'a [u8]) -> Result<Table<'a>, u64> {
+    // The table that an input asks for, with no margin.
+    fn of(input: &'a [u8]) -> Result<Table<'a>, Refusal> {
         let [image @ .., kind, parameter] = input else {
-            return Err(NO_IMAGE);
+            return Err(Refusal::Image);
         };
         let ask = Ask {
             kind: u64::from(*kind),
             parameter: u64::from(*parameter),
             margin: 0,
         };
-        let bits = value(plans::bit_count(image, ask))?;
-        let constant = value(plans::constant(image, ask))?;
+        let bits = plans::bit_count(image, ask)?;
+        let constant = plans::constant(image, ask)?;
         Ok(Table {
             image,
             ask,
@@ -56,9 +45,8 @@ impl<'a> Table<'a> {
     // The head and the lines of all rows, one row after another: the whole table is never held.
     fn write(&self, alloc: Global, out: &mut impl Write) -> io::Result<()> {
         writeln!(out, "Q {} {}", self.bits, self.constant)?;
-        let rows = self.bits.unsigned_abs();
-        let mut places = vec![in alloc; 0i64; rows as usize]?;
-        for i in 0..rows {
+        let mut places = vec![in alloc; 0i64; self.bits]?;
+        for i in 0..self.bits as u64 {
             write_row(alloc, out, i, self.row(i, places.as_mut_slice()))?;
         }
         Ok(())
@@ -90,6 +78,6 @@ fn write_entry(out: &mut impl Write, start: &str, j: u64, z: i64) -> io::Result<
 pub fn write_answer(alloc: Global, out: &mut impl Write, input: &[u8]) -> io::Result<()> {
     match Table::of(input) {
         Ok(table) => table.write(alloc, out),
-        Err(number) => writeln!(out, "refused {number}"),
+        Err(refusal) => writeln!(out, "refused {}", refusal.number()),
     }
 }

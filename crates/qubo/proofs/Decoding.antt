@@ -10,7 +10,7 @@ use Rattle.lists.proofs.Tests.{and_left, and_right, and_both, alike_same, same_a
 use Rattle.qubo.specs.Best as best
 use Rattle.qubo.specs.Instance.{Instance, CodesPlan}
 use Rattle.qubo.specs.Decoding.{codes_plan, answer_of, plan_after}
-use Rattle.qubo.specs.declared.Decoded.TheVariants.{Plan, NoPlan}
+use Rattle.std.specs.Prelude.{Some, None}
 
 -- the test says whether bits code a plan, where the candidate of a plan's code is that plan
 pub codes_exactly : (is_plan : List ℕ → Bool) (code_of candidate : List ℕ → List ℕ) → ((p : List ℕ) → is_plan p ≡ true → candidate (code_of p) ≡ p)
@@ -29,11 +29,11 @@ module _ (I : Instance) (x : List ℕ) (decides : (I.decodes x ≡ true) ↔ Cod
   decodes_test = same_test (I.decodes x) (eqb B 0) (λ e. eq-eqb B 0 (zero.1 (decides.0 e))) (λ e. decides.1 (zero.0 (eqb-true B 0 e)))
 
   -- it is not 0: no plan, and the lent plan is as it was
-  pub none_decoded : (B ≡ 0 → ⊥) → (q : List ℕ) → (NoPlan ≡ answer_of I x) × (q ≡ plan_after I x q)
+  pub none_decoded : (B ≡ 0 → ⊥) → (q : List ℕ) → (None ≡ answer_of I x) × (q ≡ plan_after I x q)
   unfolding answer_of plan_after
   none_decoded n q = rw (decodes_test, ne_eqb B 0 n) (refl, refl)
 
-  -- it is 0: the candidate, and its weight
-  pub plan_decoded : B ≡ 0 → (q p : List ℕ) (w : ℕ) → p ≡ I.decoded x → w ≡ I.weight p → (Plan w ≡ answer_of I x) × (p ≡ plan_after I x q)
+  -- it is 0: the candidate, its weight, and nothing repaired
+  pub plan_decoded : B ≡ 0 → I.repaired x ≡ 0 → (q p : List ℕ) (w : ℕ) → p ≡ I.decoded x → w ≡ I.weight p → (Some (record { weight = w; repaired = 0 }) ≡ answer_of I x) × (p ≡ plan_after I x q)
   unfolding answer_of plan_after
-  plan_decoded z q p w e c = rw (decodes_test, eq-eqb B 0 z) (ap (λ (t : ℕ). Plan t) (c ∙ ap I.weight e), e)
+  plan_decoded z r q p w e c = rw (decodes_test, eq-eqb B 0 z) (ap (λ (t : ℕ). Some (record { weight = t; repaired = 0 })) (c ∙ ap I.weight e) ∙ ap (λ (t : ℕ). Some (record { weight = I.weight (I.decoded x); repaired = t })) (sym r), e)

@@ -5,10 +5,8 @@ use Prim.Native.Nat.{ℕ, zero, suc, ◌+◌, ◌-◌, ◌*◌, ◌^◌, ◌≤�
 use native.Mathlib.Nat.{lt_of_le_of_lt, mul-le-mul_left, mul-le-mul_right, mul-add}
 use native.Mathlib.Numerals.{add-one}
 use native.Mathlib.Omega.{arith}
-use native.Mathlib.Decide.{ℕ_discrete}
 use lib.Dec.{T, leb, leb→le}
-use lib.ListN.{length, get_or, set}
-use lib.Seq.{get_or-set_same, get_or-set_other}
+use lib.ListN.{length, get_or}
 use lib.IntN.{ℤ, pos, neg_ℤ, nat_abs, ◌-ℤ◌, ◌*ℤ◌, +ℤ_idl}
 use mir.Syntax.{w64}
 use mir.Val.{SFits}
@@ -31,13 +29,6 @@ fits_abs z p = record { sfits = lt_of_le_of_lt (mag_nat_abs z) p }
 pub all_zero : (r : List ℤ) → ((k : ℕ) → k < length r → get_or r k (pos 0) ≡ pos 0) → r ≡ zeros (length r)
 all_zero [] h = refl
 all_zero (q ∷ r) h = ap₂ ◌∷◌ (h 0 (omega arith)) (all_zero r (λ k l. h (suc k) (omega arith)))
-
-pub zero_next : (r : List ℤ) (t : ℕ) → t < length r → ((k : ℕ) → k < t → get_or r k (pos 0) ≡ pos 0) → (k : ℕ) → k < t + 1 → get_or (set r t (pos 0)) k (pos 0) ≡ pos 0
-zero_next r t h z k l =
-    elim (ℕ_discrete k t) [
-      | yes e ↦ ap (λ (j : ℕ). get_or (set r t (pos 0)) j (pos 0)) e ∙ get_or-set_same r t (pos 0) (pos 0) h
-      | no e ↦ get_or-set_other r t k (pos 0) (pos 0) e ∙ z k (omega arith)
-    ]
 
 -- ---- add_run: a turn adds one more bit of the run
 pub run_next : (v : ℤ) (i t : ℕ) (b : ℕ → ℕ) (r : List ℤ) → add_terms (pair v i (b (suc t)) ∷ []) i (add_terms (times v i (bits (pos 1) t b) ∷ []) i r) ≡ add_terms (times v i (bits (pos 1) (t + 1) b) ∷ []) i r

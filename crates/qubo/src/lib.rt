@@ -4,12 +4,12 @@
 // `Room` says that no sum overflows: it follows from the norm of the formula whose terms are added.
 #![tactic(auto)]
 
-ghost use Rattle.std.specs.Prelude.{[], ◌∷◌, ◌≡◌, ◌+◌, ◌<◌, ◌≤◌, ◌^◌, length, get_or, pos, nat_abs};
+ghost use Rattle.std.specs.Prelude.{MatchOption, [], ◌∷◌, ◌≡◌, ◌+◌, ◌<◌, ◌≤◌, ◌^◌, length, get_or, pos, nat_abs};
 ghost use Rattle.qubo.specs.Table.{only, coef};
 ghost use Rattle.qubo.specs.Terms.{single, pair, unequal, times};
 ghost use Rattle.qubo.specs.Rows.{zeros, plus, add_terms, run_sum, run_one_hot, run_difference, RunBelow, IsNumber, later, Room};
 
-// The bits start, start + step, start + 2 step, ..: count of them.
+/// The bits start, start + step, start + 2 step, ..: count of them.
 #[derive(Clone, Copy)]
 pub struct Run {
     pub start: usize,
@@ -17,22 +17,15 @@ pub struct Run {
     pub count: usize,
 }
 
-// What bits decode to where nothing is repaired: a plan, with its weight, or none. The plan itself lies in the lent buffer.
-#[derive(Clone, Copy)]
-pub enum Decoded {
-    Plan { weight: u64 },
-    NoPlan,
-}
+mod problem;
 
-// Makes a row of zeros.
+pub use problem::{Decoded, Problem};
+
+/// Makes a row of zeros.
 pub fn clear(row: &mut [i64])
     ensures { row.new ≡ zeros (length row.old) }
 {
-    let mut k = 0;
-    while k < row.len() {
-        row[k] = 0;
-        k += 1;
-    }
+    row.fill(0);
 }
 
 // Adds v at place k.
@@ -41,11 +34,10 @@ fn add_at(row: &mut [i64], k: usize, v: i64)
     requires v_bound { nat_abs (get_or row.old k (pos 0)) + nat_abs v < 2 ^ 63 }
     ensures { row.new ≡ plus row.old (only k v) }
 {
-    let q = row[k];
-    row[k] = q + v;
+    row[k] += v;
 }
 
-// Adds v times bit p to row i.
+/// Adds v times bit p to row i.
 pub fn add_single(row: &mut [i64], i: usize, p: usize, v: i64)
     requires { (p < i + length row.old) × Room (2 ^ 61) (single v p ∷ []) row.old }
     ensures { row.new ≡ add_terms (single v p ∷ []) i row.old }
@@ -65,7 +57,7 @@ fn add_to_own(row: &mut [i64], i: usize, j: usize, v: i64)
     }
 }
 
-// Adds v times bit p times bit q to row i.
+/// Adds v times bit p times bit q to row i.
 pub fn add_pair(row: &mut [i64], i: usize, p: usize, q: usize, v: i64)
     requires { (p < i + length row.old) × (q < i + length row.old) × Room (2 ^ 61) (pair v p q ∷ []) row.old }
     ensures { row.new ≡ add_terms (pair v p q ∷ []) i row.old }
@@ -88,7 +80,7 @@ fn add_own_unequal(row: &mut [i64], i: usize, j: usize, v: i64)
     add_to_own(row, i, j, minus);
 }
 
-// Adds v times (bit p - bit q)² to row i, for p < q: v if exactly one of them is set. Their pair stands in the row of the lower one.
+/// Adds v times (bit p - bit q)² to row i, for p < q: v if exactly one of them is set. Their pair stands in the row of the lower one.
 pub fn add_unequal(row: &mut [i64], i: usize, p: usize, q: usize, v: i64)
     requires { (p < q) × (q < i + length row.old) × Room (2 ^ 61) (unequal v p q ∷ []) row.old }
     ensures { row.new ≡ add_terms (unequal v p q ∷ []) i row.old }
@@ -100,50 +92,44 @@ pub fn add_unequal(row: &mut [i64], i: usize, p: usize, q: usize, v: i64)
     }
 }
 
-// Adds v times bit i times the number of bits set in a run to row i.
+/// Adds v times bit i times the number of bits set in a run to row i.
 pub fn add_run(row: &mut [i64], i: usize, run: Run, v: i64)
     requires { RunBelow run (i + length row.old) × Room (2 ^ 61) (times v i (run_sum run) ∷ []) row.old }
     ensures { row.new ≡ add_terms (times v i (run_sum run) ∷ []) i row.old }
 {
-    let start = run.start;
-    let step = run.step;
-    let count = run.count;
-    let mut t: usize = 0;
-    while t < count {
-        add_to_own(row, i, start + t * step, v);
-        t += 1;
+    for t in 0..run.count {
+        add_to_own(row, i, run.start + t * run.step, v);
     }
 }
 
-// The number of bit i in a run, from 0; the run's count or more where the run has no such bit.
-fn number_in(run: Run, i: usize) -> usize
-    requires { 1 ≤ run.step }
-    ensures { (result < run.count → IsNumber run i result) × (run.count ≤ result → coef (run_sum run) i ≡ pos 0) }
-{
-    let start = run.start;
-    let step = run.step;
-    let count = run.count;
-    if i < start {
-        return count;
+impl Run {
+    // The number of bit i in the run, from 0.
+    fn number_of(self, i: usize) -> Option<usize>
+        requires { 1 ≤ self.step }
+        ensures { MatchOption result (coef (run_sum self) i ≡ pos 0) (λ t. IsNumber self i t) }
+    {
+        if i < self.start {
+            return None;
+        }
+        let off = i - self.start;
+        let t = off / self.step;
+        if off % self.step == 0 && t < self.count {
+            Some(t)
+        } else {
+            None
+        }
     }
-    let off = i - start;
-    if off % step != 0 {
-        return count;
-    }
-    off / step
-}
 
-// The bits of a run after bit i, which has number t in it.
-fn after(run: Run, i: usize, t: usize) -> Run
-    requires { (t < run.count) × (i + run.step ≤ 2 ^ 63) }
-    ensures { result ≡ later run i t }
-{
-    let step = run.step;
-    let count = run.count;
-    Run {
-        start: i + step,
-        step: step,
-        count: count - (t + 1),
+    // The bits of the run after bit i, which has number t in it.
+    fn after(self, i: usize, t: usize) -> Run
+        requires { (t < self.count) × (i + self.step ≤ 2 ^ 63) }
+        ensures { result ≡ later self i t }
+    {
+        Run {
+            start: i + self.step,
+            step: self.step,
+            count: self.count - (t + 1),
+        }
     }
 }
 
@@ -154,19 +140,17 @@ fn add_own_one_hot(row: &mut [i64], i: usize, run: Run, t: usize, a: i64)
 {
     let less = 0 - a;
     let twice = 2 * a;
-    let rest = after(run, i, t);
+    let rest = run.after(i, t);
     add_single(row, i, i, less);
     add_run(row, i, rest, twice);
 }
 
-// Adds a times (1 - bits set in a run)² to row i.
+/// Adds a times (1 - bits set in a run)² to row i.
 pub fn add_one_hot(row: &mut [i64], i: usize, run: Run, a: i64)
     requires { RunBelow run (i + length row.old) × Room (2 ^ 61) (run_one_hot a run ∷ []) row.old }
     ensures { row.new ≡ add_terms (run_one_hot a run ∷ []) i row.old }
 {
-    let count = run.count;
-    let t = number_in(run, i);
-    if t < count {
+    if let Some(t) = run.number_of(i) {
         add_own_one_hot(row, i, run, t, a);
     }
 }
@@ -179,27 +163,22 @@ fn add_own_difference(row: &mut [i64], i: usize, own: Run, t: usize, other: Run,
 {
     let same = 2 * a;
     let opposite = 0 - same;
-    let rest = after(own, i, t);
+    let rest = own.after(i, t);
     add_single(row, i, i, a);
     add_run(row, i, rest, same);
     add_run(row, i, other, opposite);
 }
 
-// Adds a times (bits set in `left` - bits set in `right`)² to row i.
+/// Adds a times (bits set in `left` - bits set in `right`)² to row i.
 pub fn add_squared_difference(row: &mut [i64], i: usize, left: Run, right: Run, a: i64)
     requires { RunBelow left (i + length row.old) × RunBelow right (i + length row.old) × Room (2 ^ 61) (run_difference a left right ∷ []) row.old }
     ensures { row.new ≡ add_terms (run_difference a left right ∷ []) i row.old }
 {
-    let lefts = left.count;
-    let rights = right.count;
-    let s = number_in(left, i);
-    let t = number_in(right, i);
-    if s < lefts {
-        if t < rights {
-            return;
-        }
-        add_own_difference(row, i, left, s, right, a);
-    } else if t < rights {
-        add_own_difference(row, i, right, t, left, a);
+    match (left.number_of(i), right.number_of(i)) {
+        (Some(s), None) => add_own_difference(row, i, left, s, right, a),
+        (None, Some(t)) => add_own_difference(row, i, right, t, left, a),
+        // in both runs the bit cancels out
+        (Some(_), Some(_)) => {}
+        (None, None) => {}
     }
 }

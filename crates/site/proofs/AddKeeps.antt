@@ -7,7 +7,8 @@ use lib.ListN.{length, length-append}
 use borrow.Author.Tests.{eqb-false}
 use native.Mathlib.Omega.{arith}
 use Rattle.lists.specs.Tests.{all}
-use Rattle.links.specs.Links.{Link, link_ok, low, high, present, insert}
+use Rattle.links.specs.Links.{link_ok, low, high, present, insert}
+use Rattle.links.specs.declared.Link.{Link}
 use Rattle.lists.proofs.Tests.{all_tail, all_append, all_cons}
 use Rattle.links.proofs.Altered.{link_ok_fact, insert_all, insert_ascends}
 use Rattle.site.specs.Layout.{SIZE, RECORDS, meters, first, first_free, count, next}

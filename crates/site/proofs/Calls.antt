@@ -2,25 +2,30 @@
 use Prim.Native.Nat.{ℕ, ◌≤◌, ◌<◌}
 use mathlib.Core.Bool.{Bool, true, false, not, ◌||◌}
 use mathlib.Core.Path.{◌≡◌, refl, sym, ap, ◌∙◌}
-use mathlib.Core.List.{List, [], ◌∷◌}
-use lib.ListN.{length, set, take, replicate}
+use mathlib.Core.List.{List, [], ◌∷◌, ◌++◌}
+use lib.ListN.{length, set, take, drop}
 use lib.Dec.{ltb}
-use borrow.Author.Tests.{eq-eqb, ne_eqb, ltb-false, not-false}
+use borrow.Author.Tests.{eq-eqb, ne_eqb, ltb-false, lt-ltb, le-ltb, not-false}
 use native.Mathlib.Omega.{arith}
+use Rattle.std.proofs.lemmas.Bool.Decides.{nat_tests}
 use native.Mathlib.Nat.{suc-ne-zero}
-use Rattle.links.specs.Links.{bad_ends, low, high, present, ends_u, ends_v, weights}
+use Rattle.links.specs.Links.{bad_ends, low, high, present}
+use Rattle.links.specs.declared.Link.{Link}
 use Rattle.lists.proofs.Tests.{or_right}
 use Rattle.site.specs.Layout.{SIZE, RECORDS, METERS, byte, word, count, meters_at, count_at, free_at, meters, first_free, set_word}
 use Rattle.site.specs.Image.{links, valid}
-use Rattle.site.specs.Refusal.{refusal}
+use Rattle.site.specs.Refusal.{refusal, number_of}
+use Rattle.site.specs.declared.refusals.Refusal.{Refusal}
+use Rattle.site.specs.declared.refusals.Refusal.TheVariants.{Image, Ends, Weight, Present, Absent, Full, Kind, Bits, Length, Row, NotBits, NoPlan, Margin}
 use Rattle.site.specs.Edits.{check_refusal, zeros, chained, place, after, begin_bytes, begin_refusal, begin_image, add_bytes, add_refusal, add_image, remove_bytes, remove_refusal, remove_image}
 use Rattle.site.specs.Reading.{read_meters, read_links, store_from, over}
 use Rattle.site.specs.Inner.{find_refusal, is_link, at_place}
-use Rattle.links.proofs.Arrays.{length_ends_u, length_ends_v, length_weights}
+use Rattle.std.specs.Prelude.{min, max, Result, Ok, Err}
+use Rattle.std.specs.Result.{result_unwrap_or, OkIff}
 use Rattle.site.proofs.Placed.{at_place_fact, place_fits}
 use Rattle.site.proofs.Valid.{valid_long, links_survey}
-use Rattle.site.proofs.Refused.{refusal_here, refusal_next, refusal_last, refusal_none, done, kept, add_zero, ends_order}
-use Rattle.site.proofs.Filling.{length_over, take_over, count_links}
+use Rattle.site.proofs.Refused.{refusal_here, refusal_next, refusal_last, refusal_none, done, kept, ends_order}
+use Rattle.site.proofs.Filling.{take_over, over_joined, count_links}
 use Rattle.site.proofs.AddKeeps.{add_fits}
 use Rattle.site.proofs.RemoveKeeps.{remove_fits}
 
@@ -48,13 +53,39 @@ passed true q xs e = absurd (suc-ne-zero 0 e)
 passed false true xs e = absurd (suc-ne-zero 1 e)
 passed false false xs e = refl
 
+-- no refusal has the number 0
+pub number_above : (r : Refusal) → number_of r ≡ 0 → ⊥
+number_above Image e = suc-ne-zero _ e
+number_above Ends e = suc-ne-zero _ e
+number_above Weight e = suc-ne-zero _ e
+number_above Present e = suc-ne-zero _ e
+number_above Absent e = suc-ne-zero _ e
+number_above Full e = suc-ne-zero _ e
+number_above Kind e = suc-ne-zero _ e
+number_above Bits e = suc-ne-zero _ e
+number_above Length e = suc-ne-zero _ e
+number_above Row e = suc-ne-zero _ e
+number_above NotBits e = suc-ne-zero _ e
+number_above NoPlan e = suc-ne-zero _ e
+number_above Margin e = suc-ne-zero _ e
+
+-- the lower end is the least of both, the higher one the greatest
+pub low_min : (a b : ℕ) → min a b ≡ low a b
+unfolding low
+low_min a b = grind (arith, nat_tests)
+
+pub high_max : (a b : ℕ) → max a b ≡ high a b
+unfolding high
+high_max a b = grind (arith, nat_tests)
+
+-- an end that is a byte is taken as it is
+pub taken : {E : Type 0} (r : Result ℕ E) (x : ℕ) → OkIff r (x < 256) x → x < 256 → result_unwrap_or r 0 ≡ x
+taken (Ok y) x o h = o.1
+taken (Err e) x o h = absurd (o h)
+
 -- what find has in hand of a valid image
-pub find_held : (s : List ℕ) (u v p : ℕ) {r : Bool} {P Q R : Type 0} → (r ≡ valid s) × (r ≡ true → P × Q × R × (p ≡ place s u v)) → not r ≡ false → (valid s ≡ true) × (length s ≡ SIZE) × (p ≡ place s u v) × (p ≤ RECORDS)
-find_held s u v p {r} w n =
-    let t = not-false r n in
-    let e = sym w.0 ∙ t in
-    let q = (w.1 t).3 in
-    (e, valid_long s e, q, omega (arith, q, place_fits s u v e))
+pub find_held : (s : List ℕ) (u v p : ℕ) → valid s ≡ true → p ≡ place s u v → (length s ≡ SIZE) × (p ≤ RECORDS)
+find_held s u v p e q = (valid_long s e, omega (arith, q, place_fits s u v e))
 
 module _ (s : List ℕ) (a b : ℕ) where
   pub find_image : valid s ≡ false → 1 ≡ find_refusal s a b
@@ -122,14 +153,10 @@ module _ (s : List ℕ) (a b w : ℕ) where
         add_accepts f = passed _ _ _ e ∙ refusal_next 3 _ _ (ne_eqb w 0 h) ∙ refusal_next 4 _ _ p ∙ refusal_last 6 _ (ne_eqb (first_free s) 0 f)
 
   -- what the stores ask
-  pub add_needs : (u v p : ℕ) → add_refusal s a b w ≡ 0 → w < 65536 → u ≡ low a b → v ≡ high a b → p ≡ place s (low a b) (high a b)
-      → (length s ≡ SIZE) × (p ≡ place s u v) × (p ≤ RECORDS) × (first_free s ≤ RECORDS) × (count s ≤ RECORDS) × (u < 256) × (v < 256) × (w < 65536)
-  add_needs u v p e h f g k =
-      let z = add_zero s a b w e in
-      let o = ends_order (meters s) a b z.1 in
-      let m = (links_survey s z.0).meters_high in
+  pub add_needs : (u v p : ℕ) → add_refusal s a b w ≡ 0 → u ≡ low a b → v ≡ high a b → p ≡ place s (low a b) (high a b) → (length s ≡ SIZE) × (p ≡ place s u v) × (p ≤ RECORDS) × (first_free s ≤ RECORDS) × (count s ≤ RECORDS)
+  add_needs u v p e f g k =
       let t = add_fits s a b w e in
-      (t.0, k ∙ rw (f, g), omega (arith, k, t.3), t.1, t.2, omega (arith, f, o, m), omega (arith, g, o, m), h)
+      (t.0, k ∙ rw (f, g), omega (arith, k, t.3), t.1, t.2)
 
   pub add_stores : (u v : ℕ) (t : List ℕ) → add_refusal s a b w ≡ 0 → u ≡ low a b → v ≡ high a b → t ≡ add_bytes s u v w → (0 ≡ add_refusal s a b w) × (t ≡ add_image s a b w)
   unfolding add_image
@@ -155,17 +182,26 @@ module _ (s : List ℕ) (a b : ℕ) where
     remove_accepts p = passed _ _ _ e ∙ refusal_last 5 _ (ap not p)
 
   -- what the stores ask
-  pub remove_needs : (u v p : ℕ) → remove_refusal s a b ≡ 0 → u ≡ low a b → v ≡ high a b → p ≡ place s (low a b) (high a b)
-      → (length s ≡ SIZE) × (p ≡ place s u v) × (p ≤ RECORDS) × (after s (place s u v) ≤ RECORDS) × (1 ≤ count s)
-  remove_needs u v p e f g k =
+  pub remove_needs : (p : ℕ) → remove_refusal s a b ≡ 0 → p ≡ place s (low a b) (high a b) → (length s ≡ SIZE) × (p ≤ RECORDS) × (after s p ≤ RECORDS) × (1 ≤ count s)
+  remove_needs p e k =
       let t = remove_fits s a b e in
-      (t.0, k ∙ rw (f, g), omega (arith, k, t.3), rw (f, g) t.1, t.2)
+      (t.0, omega (arith, k, t.3), rw k t.1, t.2)
 
-  pub remove_stores : (u v : ℕ) (t : List ℕ) → remove_refusal s a b ≡ 0 → u ≡ low a b → v ≡ high a b → t ≡ remove_bytes s u v → (0 ≡ remove_refusal s a b) × (t ≡ remove_image s a b)
+  pub remove_stores : (t : List ℕ) → remove_refusal s a b ≡ 0 → t ≡ remove_bytes s (low a b) (high a b) → (0 ≡ remove_refusal s a b) × (t ≡ remove_image s a b)
   unfolding remove_image
-  remove_stores u v t e f g h = (sym e, h ∙ rw (f, g) (sym (done (remove_refusal s a b) _ s e)))
+  remove_stores t e h = (sym e, h ∙ sym (done (remove_refusal s a b) _ s e))
 
 -- ---- begin
+
+-- the numbers of meters that are refused, by the tests
+pub too_few : (n : ℕ) → n < 1 → (ltb n 1 || ltb METERS n) ≡ true
+too_few n h = rw (lt-ltb n 1 h)
+
+pub too_many : (n : ℕ) → 1 ≤ n → METERS < n → (ltb n 1 || ltb METERS n) ≡ true
+too_many n g h = rw (le-ltb n 1 g, lt-ltb METERS n h)
+
+pub within : (n : ℕ) → 1 ≤ n → n ≤ METERS → (ltb n 1 || ltb METERS n) ≡ false
+within n g h = rw (le-ltb n 1 g, le-ltb METERS n h)
 
 -- a number of meters that is not refused is a byte
 pub begin_within : (n : ℕ) → (ltb n 1 || ltb METERS n) ≡ false → n < 256
@@ -193,7 +229,7 @@ module _ (s : List ℕ) (n : ℕ) where
         (sym e, c ∙ d ∙ sym (done (begin_refusal s n) (begin_bytes n) s e))
 
 -- ---- read
-pub over_none : (d : List ℕ) → d ≡ over [] d
+pub over_none : {A : Type 0} (d : List A) → d ≡ over [] d
 unfolding over store_from
 over_none d = refl
 
@@ -214,50 +250,16 @@ module _ (s : List ℕ) where
   unfolding read_meters
   meters_all e = rw e
 
--- what read has in hand where the image is valid: m places of its own arrays hold the links
-pub record Held (s : List ℕ) (m : ℕ) (us vs ws : List ℕ) : Type 0 where
-  pub is_valid : valid s ≡ true
-  pub counted : m ≡ length (links s)
-  pub few : m ≤ RECORDS
-  pub room_u : m ≤ length us
-  pub room_v : m ≤ length vs
-  pub room_w : m ≤ length ws
-  pub u : take m us ≡ ends_u (links s)
-  pub v : take m vs ≡ ends_v (links s)
-  pub w : take m ws ≡ weights (links s)
-
--- by the promise of the walk, in arrays of zeros
-pub held : (s : List ℕ) (m : ℕ) (us vs ws : List ℕ) {r : Bool} {P : Type 0}
-    → (r ≡ valid s) × (r ≡ true → (us ≡ over (ends_u (links s)) (replicate 256 0)) × (vs ≡ over (ends_v (links s)) (replicate 256 0)) × (ws ≡ over (weights (links s)) (replicate 256 0)) × P)
-    → not r ≡ false → m ≡ word s count_at → Held s m us vs ws
+-- what read has in hand where the image is valid: the first m entries of its own array are the links
+pub read_held : (s : List ℕ) (front zs : List Link) (m : ℕ) → valid s ≡ true → front ≡ over (links s) zs → length zs ≡ RECORDS → m ≡ word s count_at → (m ≡ length (links s)) × (m ≤ RECORDS) × (take m front ≡ links s)
 unfolding count
-held s m us vs ws {r} p q c =
-    let t = not-false r q in
-    let e = sym p.0 ∙ t in
-    let a = p.1 t in
+read_held s front zs m e a l c =
     let k : m ≡ length (links s) = c ∙ count_links s e in
     let f = (links_survey s e).few in
-    let lu = length_ends_u (links s) in
-    let lv = length_ends_v (links s) in
-    let lw = length_weights (links s) in
-    let z : length {A = ℕ} (replicate 256 0) ≡ 256 = refl in
-    record {
-      is_valid = e;
-      counted = k;
-      few = omega arith;
-      room_u = rw a.0 (omega (arith, length_over (ends_u (links s)) (replicate 256 0)));
-      room_v = rw a.1 (omega (arith, length_over (ends_v (links s)) (replicate 256 0)));
-      room_w = rw a.2 (omega (arith, length_over (weights (links s)) (replicate 256 0)));
-      u = rw a.0 (take_over (ends_u (links s)) (replicate 256 0) m (k ∙ sym lu) (omega arith));
-      v = rw a.1 (take_over (ends_v (links s)) (replicate 256 0) m (k ∙ sym lv) (omega arith));
-      w = rw a.2 (take_over (weights (links s)) (replicate 256 0) m (k ∙ sym lw) (omega arith));
-    }
+    (k, omega arith, rw a (take_over (links s) zs m k (omega arith)))
 
--- the lent arrays after the copies
-pub read_copies : (s : List ℕ) (n m : ℕ) (us vs ws us₀ vs₀ ws₀ us₁ vs₁ ws₁ : List ℕ) → Held s m us vs ws → n ≡ byte s meters_at → us₁ ≡ over (take m us) us₀ → vs₁ ≡ over (take m vs) vs₀ → ws₁ ≡ over (take m ws) ws₀
-    → ((0 ≡ check_refusal s) × (n ≡ read_meters s) × (m ≡ length (read_links s)))
-    × ((us₁ ≡ over (ends_u (read_links s)) us₀) × ((vs₁ ≡ over (ends_v (read_links s)) vs₀) × ((ws₁ ≡ over (weights (read_links s)) ws₀) × (s ≡ s))))
-unfolding meters
-read_copies s n m us vs ws us₀ vs₀ ws₀ us₁ vs₁ ws₁ h e a b c =
-    let v = h.is_valid in
-    rw (← read_all s v) ((check_yes s v, e ∙ meters_all s v, h.counted), (a ∙ rw h.u, (b ∙ rw h.v, (c ∙ rw h.w, refl))))
+-- the lent array after the copy
+pub read_copied : (s : List ℕ) (front zs ls ls' : List Link) (m : ℕ) → valid s ≡ true → front ≡ over (links s) zs → length zs ≡ RECORDS → m ≡ word s count_at → length ls ≡ RECORDS → ls' ≡ take m front ++ drop m ls → ls' ≡ over (read_links s) ls
+read_copied s front zs ls ls' m e a l c n q =
+    let h = read_held s front zs m e a l c in
+    q ∙ rw (← read_all s e) (over_joined (links s) (take m front) ls m h.2 h.0 (omega (arith, h.1, n)))

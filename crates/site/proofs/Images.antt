@@ -7,10 +7,10 @@ use lib.ListN.{length, take}
 use lib.Dec.{eqb}
 use borrow.Author.Tests.{eq-eqb, not-false}
 use native.Mathlib.Omega.{arith}
-use Rattle.links.specs.Links.{Link, has_ends, low, high, present, weight_of, insert, delete, bad_ends, ends_u, ends_v, weights, links_of}
-use Rattle.links.specs.Survey.{Arrays}
+use Rattle.links.specs.Links.{has_ends, low, high, present, weight_of, insert, delete, bad_ends}
+use Rattle.links.specs.declared.Link.{Link}
+use Rattle.links.specs.Survey.{IsSurvey}
 use Rattle.links.proofs.Altered.{insert_weight, delete_weight, insert_present, delete_present, insert_delete, delete_insert, weight_within}
-use Rattle.links.proofs.Arrays.{arrays_of, links_of_fields, length_ends_u, length_ends_v, length_weights}
 use Rattle.site.specs.Layout.{RECORDS, meters, first_free}
 use Rattle.site.specs.Image.{link_at, links, valid, free_chain}
 use Rattle.site.specs.Edits.{place, after, check_refusal, begin_refusal, begin_image, add_refusal, add_image, remove_refusal, remove_image}
@@ -119,39 +119,25 @@ pub check_valid : (s : List ℕ) → check_refusal s ≡ 0 → valid s ≡ true
 unfolding check_refusal
 check_valid s e = not-false (valid s) (refusal_none 0 _ _ e).0
 
--- what a caller of read has in hand where it is not refused: n places of each array are there, and hold the links, a survey of m meters
-pub record ReadOut (s : List ℕ) (m n : ℕ) (us vs ws : List ℕ) : Type 0 where
+-- what a caller of read has in hand where it is not refused: the first n places of the array are there, and hold the links, a survey of m meters
+pub record ReadOut (s : List ℕ) (m n : ℕ) (ls : List Link) : Type 0 where
   pub is_valid : valid s ≡ true
   pub is_meters : m ≡ meters s
-  pub room_u : n ≤ length us
-  pub room_v : n ≤ length vs
-  pub room_w : n ≤ length ws
-  pub arrays : Arrays m (take n us) (take n vs) (take n ws)
-  pub are : links_of (take n us) (take n vs) (take n ws) ≡ links s
+  pub room : n ≤ length ls
+  pub survey : IsSurvey m (take n ls)
+  pub are : take n ls ≡ links s
 
--- the promise of read, in arrays of 256 places, says so
-pub read_out : (s us₀ vs₀ ws₀ us vs ws : List ℕ) (m n : ℕ) → check_refusal s ≡ 0 → m ≡ read_meters s → n ≡ length (read_links s)
-    → us ≡ over (ends_u (read_links s)) us₀ → vs ≡ over (ends_v (read_links s)) vs₀ → ws ≡ over (weights (read_links s)) ws₀
-    → length us₀ ≡ RECORDS → length vs₀ ≡ RECORDS → length ws₀ ≡ RECORDS → ReadOut s m n us vs ws
-read_out s us₀ vs₀ ws₀ us vs ws m n z em en eu ev ew lu lv lw =
+-- the promise of read, in an array of 256 places, says so
+pub read_out : (s : List ℕ) (ls₀ ls : List Link) (m n : ℕ) → check_refusal s ≡ 0 → m ≡ read_meters s → n ≡ length (read_links s) → ls ≡ over (read_links s) ls₀ → length ls₀ ≡ RECORDS → ReadOut s m n ls
+read_out s ls₀ ls m n z em en el long =
     let e = check_valid s z in
     let v = links_survey s e in
     let r : read_links s ≡ links s = sym (read_all s e) in
     let k : n ≡ length (links s) = en ∙ ap length r in
     let q : m ≡ meters s = em ∙ sym (meters_all s e) in
-    let tu : take n us ≡ ends_u (links s) = rw (eu, r) (take_over (ends_u (links s)) us₀ n (k ∙ sym (length_ends_u (links s))) (omega (arith, length_ends_u (links s), lu, v.few))) in
-    let tv : take n vs ≡ ends_v (links s) = rw (ev, r) (take_over (ends_v (links s)) vs₀ n (k ∙ sym (length_ends_v (links s))) (omega (arith, length_ends_v (links s), lv, v.few))) in
-    let tw : take n ws ≡ weights (links s) = rw (ew, r) (take_over (weights (links s)) ws₀ n (k ∙ sym (length_weights (links s))) (omega (arith, length_weights (links s), lw, v.few))) in
-    record {
-      is_valid = e;
-      is_meters = q;
-      room_u = rw eu (omega (arith, length_over (ends_u (read_links s)) us₀, lu, k, v.few));
-      room_v = rw ev (omega (arith, length_over (ends_v (read_links s)) vs₀, lv, k, v.few));
-      room_w = rw ew (omega (arith, length_over (weights (read_links s)) ws₀, lw, k, v.few));
-      arrays = rw (q, tu, tv, tw) (arrays_of (meters s) (links s) v);
-      are = rw (tu, tv, tw) (links_of_fields (links s));
-    }
+    let t : take n ls ≡ links s = rw (el, r) (take_over (links s) ls₀ n k (omega (arith, long, v.few))) in
+    record { is_valid = e; is_meters = q; room = rw el (omega (arith, length_over (read_links s) ls₀, long, k, v.few)); survey = rw (q, t) v; are = t }
 
--- what is promised of the meters and links in the arrays holds of those of the image
-pub to_image : (s us vs ws : List ℕ) (m n : ℕ) → ReadOut s m n us vs ws → (P : ℕ → List Link → Type 0) → P m (links_of (take n us) (take n vs) (take n ws)) → P (meters s) (links s)
-to_image s us vs ws m n o P p = subst (λ (N : ℕ). P N (links s)) o.is_meters (subst (P m) o.are p)
+-- what is promised of the meters and links in the array holds of those of the image
+pub to_image : (s : List ℕ) (ls : List Link) (m n : ℕ) → ReadOut s m n ls → (P : ℕ → List Link → Type 0) → P m (take n ls) → P (meters s) (links s)
+to_image s ls m n o P p = subst (λ (N : ℕ). P N (links s)) o.is_meters (subst (P m) o.are p)

@@ -8,7 +8,8 @@ use borrow.Author.Tests.{ne_eqb}
 use native.Mathlib.Omega.{arith}
 use native.Mathlib.Nat.{not-suc-le-zero}
 use Rattle.lists.specs.Tests.{all, any}
-use Rattle.links.specs.Links.{Link, before, has_ends, ascending_from, ascending, present}
+use Rattle.links.specs.Links.{before, has_ends, ascending_from, ascending, present}
+use Rattle.links.specs.declared.Link.{Link}
 use Rattle.lists.proofs.Tests.{and_left, and_right, and_both}
 use Rattle.links.proofs.Order.{before_true, before_yes, before_trans, before_irrefl, before_else}
 use Rattle.links.proofs.Altered.{ends_no, ends_not, rises_ascends, rises_sooner, rises_none}

@@ -5,7 +5,8 @@ use mathlib.Core.Path.{◌≡◌, refl, sym, ap, ◌∙◌, subst}
 use mathlib.Core.List.{List, [], ◌∷◌, ◌++◌, map}
 use native.Mathlib.Omega.{arith}
 use Rattle.lists.specs.Tests.{all}
-use Rattle.links.specs.Links.{Link, has_ends, insert, delete}
+use Rattle.links.specs.Links.{has_ends, insert, delete}
+use Rattle.links.specs.declared.Link.{Link}
 use Rattle.lists.proofs.Tests.{and_left, and_right, and_both}
 use Rattle.site.specs.Layout.{next}
 use Rattle.site.specs.Image.{link_at, named, times}

@@ -8,7 +8,7 @@ use lib.Dec.{eqb}
 use borrow.Author.Tests.{eq-eqb, ne_eqb}
 use native.Mathlib.Omega.{arith}
 use Rattle.lists.specs.Tests.{every, all, from}
-use Rattle.links.specs.Links.{Link}
+use Rattle.links.specs.declared.Link.{Link}
 use Rattle.lists.proofs.Tests.{and_both, Equal, equal, other, equal?}
 use Rattle.site.specs.Layout.{SIZE, RECORDS, byte, word, set_word, set_record, meters_at, first_at, free_at, count_at, record_at, weight_at, next_at, pad_at, meters, first_free, count, end_u, end_v, weight, next, pad}
 use Rattle.site.specs.Image.{link_at, zero_at, pad_zero, free_ok}

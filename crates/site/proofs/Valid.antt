@@ -9,7 +9,7 @@ use borrow.Author.Tests.{le-leb, eq-eqb, ne_eqb, eqb-true, leb-true}
 use native.Mathlib.Omega.{arith}
 use Rattle.lists.specs.Tests.{every, all, from}
 use Rattle.links.specs.Links.{link_ok, before, ascending_from, ascending}
-use Rattle.links.specs.Survey.{Survey}
+use Rattle.links.specs.Survey.{IsSurvey}
 use Rattle.lists.proofs.Tests.{and_left, and_right, and_both, same_test, every_at, all_head, all_tail, all_cons, all_append}
 use Rattle.links.proofs.Altered.{ascending_from_fact, link_of}
 use Rattle.site.specs.Layout.{SIZE, RECORDS, METERS, meters, first, first_free, count, end_u, end_v, next}
@@ -268,7 +268,7 @@ module _ (s : List ℕ) (e : valid s ≡ true) where
   links_length = length-map (link_chain s) (link_at s)
 
   -- its number of meters and its links are as a kind may rely on
-  pub links_survey : Survey (meters s) (links s)
+  pub links_survey : IsSurvey (meters s) (links s)
   unfolding links head_ok
   links_survey =
       let g = valid_good s e in

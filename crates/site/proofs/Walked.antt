@@ -1,14 +1,12 @@
 -- One turn of each walk of `specs/Walks.antt`, by where it ends: what the loops of src/ go by. Assumes nothing.
-use Prim.Native.Nat.{ℕ, zero, suc, ◌+◌, ◌-◌, ◌≤◌, ◌<◌}
+use Prim.Native.Nat.{ℕ, suc, ◌+◌, ◌-◌, ◌≤◌, ◌<◌}
 use mathlib.Core.Bool.{true, false, ◌&&◌}
-use mathlib.Core.Path.{◌≡◌, refl, ◌∙◌}
+use mathlib.Core.Path.{◌≡◌, ◌∙◌}
 use mathlib.Core.List.{List}
 use lib.ListN.{length}
 use lib.Dec.{eqb}
 use borrow.Author.Tests.{lt-leb, le-leb, eq-eqb, ne_eqb}
 use native.Mathlib.Omega.{arith}
-use native.Mathlib.Nat.{not-suc-le-zero}
-use native.Mathlib.Numerals.{sub-one}
 use Rattle.site.specs.Layout.{SIZE, RECORDS, meters, first, first_free, count, end_u, end_v, next}
 use Rattle.site.specs.Image.{free_ok, named}
 use Rattle.site.specs.Inner.{link_fits, walk_links, walk_free, head_ok, checks}
@@ -37,28 +35,30 @@ none_left m i h = omega arith
 
 module _ (s : List ℕ) where
   -- ---- the walk of the free records
-  free_step : (c k : ℕ) → 0 < c → walk_free s c k ≡ (named k && (free_ok s k && walk_free s (c - 1) (next s k)))
+  free_step : (m i k : ℕ) → i < m → walk_free s (m - i) k ≡ (named k && (free_ok s k && walk_free s (m - (i + 1)) (next s k)))
   unfolding walk_free
-  free_step zero k h = absurd (not-suc-le-zero h)
-  free_step (suc c) k h = rw (sub-one (suc c))
+  free_step m i k h = rw (one_less m i h)
 
   -- it fails at a number that names no record
-  pub free_out : (c k : ℕ) → 0 < c → named k ≡ false → walk_free s c k ≡ false
-  free_out c k h e = free_step c k h ∙ rw e
+  pub free_out : (m i k : ℕ) → i < m → named k ≡ false → walk_free s (m - i) k ≡ false
+  free_out m i k h e = free_step m i k h ∙ rw e
 
   -- it fails at a record that is not zero but for next
-  pub free_bad : (c k : ℕ) → 0 < c → named k ≡ true → free_ok s k ≡ false → walk_free s c k ≡ false
-  free_bad c k h e f = free_step c k h ∙ rw (e, f)
+  pub free_bad : (m i k : ℕ) → i < m → named k ≡ true → free_ok s k ≡ false → walk_free s (m - i) k ≡ false
+  free_bad m i k h e f = free_step m i k h ∙ rw (e, f)
 
   -- else it goes on at the next record
-  pub free_on : (c k : ℕ) → 0 < c → named k ≡ true → free_ok s k ≡ true → walk_free s c k ≡ walk_free s (c - 1) (next s k)
-  free_on c k h e f = free_step c k h ∙ rw (e, f)
+  pub free_on : (m i k : ℕ) → i < m → named k ≡ true → free_ok s k ≡ true → walk_free s (m - i) k ≡ walk_free s (m - (i + 1)) (next s k)
+  free_on m i k h e f = free_step m i k h ∙ rw (e, f)
+
+  -- before the first step
+  pub free_start : (m k : ℕ) → k ≡ first_free s → walk_free s m (first_free s) ≡ walk_free s (m - 0) k
+  free_start m k e = let z : m - 0 ≡ m = omega arith in rw (z, e)
 
   -- with no steps left the chain must end
-  pub free_end : (c k : ℕ) → c ≤ 0 → walk_free s c k ≡ eqb k 0
+  pub free_end : (m i k : ℕ) → m ≤ i → walk_free s (m - i) k ≡ eqb k 0
   unfolding walk_free
-  free_end zero k h = refl
-  free_end (suc c) k h = absurd (not-suc-le-zero h)
+  free_end m i k h = rw (none_left m i h)
 
   -- ---- the walk of the links
   module _ (n : ℕ) where

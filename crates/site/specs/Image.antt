@@ -1,7 +1,8 @@
 -- Chains, links and the rules of a site image. Assumes nothing.
 use Rattle.std.specs.Prelude.{ℕ, zero, suc, ◌+◌, Bool, ◌&&◌, cond, List, [], ◌∷◌, ◌++◌, map, length, leb, eqb}
 use Rattle.lists.specs.Tests.{every, all, from}
-use Rattle.links.specs.Links.{Link, link_ok, ascending}
+use Rattle.links.specs.Links.{link_ok, ascending}
+use Rattle.links.specs.declared.Link.{Link}
 use Rattle.site.specs.Layout.{SIZE, RECORDS, METERS, zero_bytes, byte, meters, first, first_free, count, end_u, end_v, weight, next, pad}
 
 -- ---- chains: "Next and the two firsts name a record; zero ends a chain or marks it empty"

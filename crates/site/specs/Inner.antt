@@ -1,7 +1,8 @@
 -- Only contracts between functions cite this: a reader of the public promises may skip it. What the loops of src/ compute: the rules as two walks with a step count, what the walk of the links stores and remembers, and the look at one record that tells whether a link is there; proofs/Valid.antt and proofs/Placed.antt
 -- show that they decide what Image.antt and Edits.antt say. Assumes nothing.
-use Rattle.std.specs.Prelude.{ℕ, zero, suc, ◌+◌, ◌-◌, ◌*◌, Bool, ◌&&◌, cond, not, List, [], ◌∷◌, length, set, leb, eqb}
+use Rattle.std.specs.Prelude.{ℕ, zero, suc, ◌+◌, ◌-◌, ◌*◌, Bool, ◌&&◌, cond, not, List, [], ◌∷◌, length, leb, eqb}
 use Rattle.lists.specs.Tests.{all}
+use Rattle.links.specs.declared.Link.{Link}
 use Rattle.links.specs.Links.{link_ok, before, has_ends, bad_ends}
 use Rattle.site.specs.Layout.{SIZE, RECORDS, METERS, zero_bytes, meters, first, first_free, count, end_u, end_v, next}
 use Rattle.site.specs.Image.{link_at, zero_at, pad_zero, free_ok, named, valid}
@@ -21,10 +22,10 @@ unfoldable pub walk_links : List ℕ → ℕ → ℕ → ℕ → ℕ → ℕ →
 walk_links s n zero k a b = eqb k 0
 walk_links s n (suc c) k a b = named k && (link_fits s n a b k && walk_links s n c (next s k) (end_u s k) (end_v s k))
 
--- f of the c records from record k on, stored at the places i, i + 1, .. of an array
-unfoldable pub fill_from : (ℕ → ℕ) → List ℕ → ℕ → ℕ → ℕ → List ℕ → List ℕ
-fill_from f s zero k i array = array
-fill_from f s (suc c) k i array = fill_from f s c (next s k) (suc i) (set array i (f k))
+-- the links of the c records from record k on
+unfoldable pub links_on : List ℕ → ℕ → ℕ → List Link
+links_on s zero k = []
+links_on s (suc c) k = link_at s k ∷ links_on s c (next s k)
 
 -- the last of the c records from record k on that stands before the ends (a, b), p where none does
 unfoldable pub last_before : List ℕ → ℕ → ℕ → ℕ → ℕ → ℕ → ℕ

@@ -7,7 +7,7 @@ use native.Mathlib.Decide.{dec_le, ℕ_discrete}
 use native.Mathlib.Omega.{arith}
 use Rattle.lists.specs.Sums.{nth}
 use Rattle.lists.proofs.Sums.{nth_zero}
-use Rattle.links.specs.Links.{Link}
+use Rattle.links.specs.declared.Link.{Link}
 use Rattle.spanning.specs.Spanning.{Linked}
 use Rattle.spanning.proofs.Ranges.{all_or_not}
 use Rattle.spanning.proofs.Shape.{linked_flip}

@@ -15,8 +15,9 @@ use Rattle.lists.specs.Sums.{sum_to, sum_of, same, differ, nth}
 use Rattle.lists.proofs.Tests.{all_head, all_tail}
 use Rattle.lists.proofs.Sums.{same_yes, same_no, differ_yes, differ_no, same_sym, sum_to_eq, sum_to_none, sum_to_single, sum_to_add, sum_to_const}
 use Rattle.lists.proofs.Members.{sum_of_swap}
-use Rattle.links.specs.Links.{Link, link_ok, has_ends, is_at, degree}
-use Rattle.links.specs.Survey.{LinkOf, Survey}
+use Rattle.links.specs.Links.{link_ok, has_ends, is_at, degree}
+use Rattle.links.specs.declared.Link.{Link}
+use Rattle.links.specs.Survey.{LinkOf, IsSurvey}
 use Rattle.links.proofs.Altered.{link_of, ends_yes, ends_no}
 use Rattle.links.proofs.Walk.{sum_equal}
 use Rattle.spanning.specs.Parents.{roots_of, neighbours, is_used, tree_links}
@@ -107,7 +108,7 @@ joins_uses : (p : List ℕ) (l : Link) (v : ℕ) → Joins l v (nth p v) → Use
 joins_uses p l v (along e f) = child (ap (nth p) e ∙ sym f)
 joins_uses p l v (back e f) = parent (ap (nth p) f ∙ sym e)
 
-module _ (N D : ℕ) (ls : List Link) (p : List ℕ) (s : Survey N ls) (t : Shape N D ls p) where
+module _ (N D : ℕ) (ls : List Link) (p : List ℕ) (s : IsSurvey N ls) (t : Shape N D ls p) where
   -- a link that is used joins one meter and its parent, any other link none
   one_meter : (g : Link → ℕ) (l : Link) → LinkOf N l → sum_to N (to_parent p g l) ≡ cond (is_used p l) (g l) 0
   one_meter g l f = ⊎_elim (λ q. rw q.0 (used q.1)) (λ q. rw q.0 (sum_to_none N (to_parent p g l) (λ v a b. to_no p g l v (λ j. q.1 (joins_uses p l v j))))) (used_view p l)

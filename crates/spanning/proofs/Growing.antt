@@ -11,7 +11,8 @@ use Rattle.lists.specs.Tests.{all}
 use Rattle.lists.specs.Sums.{nth}
 use Rattle.lists.proofs.Sums.{nth_zero}
 use Rattle.lists.proofs.Stores.{zero_entries}
-use Rattle.links.specs.Links.{Link, link_ok}
+use Rattle.links.specs.Links.{link_ok}
+use Rattle.links.specs.declared.Link.{Link}
 use Rattle.spanning.specs.Spanning.{Linked, Reach, stay, go}
 use Rattle.spanning.proofs.Shape.{linked_flip}
 use Rattle.spanning.proofs.Depths.{linked_in}

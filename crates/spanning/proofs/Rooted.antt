@@ -7,10 +7,10 @@ use lib.ListN.{length, set, length-set}
 use lib.Seq.{get_or-set_same, get_or-set_other}
 use native.Mathlib.Decide.{ℕ_discrete}
 use native.Mathlib.Omega.{arith}
+use Rattle.std.specs.Prelude.{Some}
 use Rattle.lists.specs.Sums.{same, nth}
 use Rattle.lists.proofs.Sums.{nth_zero, same_yes, same_no, sum_to_eq, sum_to_same}
-use Rattle.links.specs.Links.{Link}
-use Rattle.spanning.specs.declared.Depth.TheVariants.{At}
+use Rattle.links.specs.declared.Link.{Link}
 use Rattle.spanning.specs.Parents.{depth_of, roots_of}
 use Rattle.spanning.specs.Spanning.{Linked}
 use Rattle.spanning.proofs.Shape.{Shape}
@@ -79,7 +79,7 @@ module _ {N : ℕ} {T : List Link} {p : List ℕ} (t : Rooted N T p) where
 -- ---- depths
 
 -- a chain that ends within k steps gives a depth below k
-chain_depth : (p : List ℕ) (k v : ℕ) → v ≢ 0 → up (nth p) k v ≡ 0 → (h : ℕ) × (depth_of p k v ≡ At h) × (h < k)
+chain_depth : (p : List ℕ) (k v : ℕ) → v ≢ 0 → up (nth p) k v ≡ 0 → (h : ℕ) × (depth_of p k v ≡ Some h) × (h < k)
 unfolding up
 chain_depth p zero v n e = absurd (n e)
 chain_depth p (suc k) v n e =
@@ -105,7 +105,7 @@ rooted_shape N D T p t b = record {
           | no q ↦ same_no (nth p v) 0 (λ e. q (is_root t v (omega arith) k e)) ∙ sym (same_no t.root v (λ e. q (sym e)))
         ]
 
-    low : (v : ℕ) → 1 ≤ v → v ≤ N → (h : ℕ) × (depth_of p N v ≡ At h) × (h ≤ D)
+    low : (v : ℕ) → 1 ≤ v → v ≤ N → (h : ℕ) × (depth_of p N v ≡ Some h) × (h ≤ D)
     low v l k =
         let x = chain_depth p N v (omega arith) (t.ends v k) in
         let y = chain_depth p (suc D) v (omega arith) (b v k) in

@@ -8,13 +8,13 @@ use lib.Dec.{eqb}
 use borrow.Author.Tests.{eqb-true, eq-eqb, ne_eqb, leb-true, le-leb}
 use native.Mathlib.Omega.{arith}
 use native.Mathlib.Decide.{ℕ_discrete}
+use Rattle.std.specs.Prelude.{Option, Some, None}
 use Rattle.lists.specs.Tests.{every, any}
 use Rattle.lists.specs.Sums.{nth}
 use Rattle.lists.proofs.Tests.{every_at, all_from, from_all}
-use Rattle.links.specs.Links.{Link, has_ends, present}
+use Rattle.links.specs.Links.{has_ends, present}
+use Rattle.links.specs.declared.Link.{Link}
 use Rattle.links.proofs.Altered.{ends_u_fact, ends_v_fact, ends_yes}
-use Rattle.spanning.specs.declared.Depth.{Depth}
-use Rattle.spanning.specs.declared.Depth.TheVariants.{At, Ring}
 use Rattle.spanning.specs.Parents.{depth_of, at_most, linked, parent_linked, roots_of, is_rooted}
 use Rattle.spanning.specs.Spanning.{Joins, along, back, Linked, here, there}
 
@@ -23,7 +23,7 @@ pub record Shape (N D : ℕ) (ls : List Link) (p : List ℕ) : Type 0 where
   pub len : length p ≡ N
   pub one_root : roots_of N p ≡ 1
   pub linked : (v : ℕ) → 1 ≤ v → v ≤ N → (nth p v ≡ 0 → ⊥) → Linked v (nth p v) ls
-  pub low : (v : ℕ) → 1 ≤ v → v ≤ N → (h : ℕ) × (depth_of p N v ≡ At h) × (h ≤ D)
+  pub low : (v : ℕ) → 1 ≤ v → v ≤ N → (h : ℕ) × (depth_of p N v ≡ Some h) × (h ≤ D)
 
 -- ---- linked neighbours
 
@@ -71,13 +71,13 @@ linked_test a b _ (there {l = l} {ls = ls} k) = go (has_ends a b l) (has_ends b 
 -- ---- depths
 
 -- the test gives a depth
-depth_low : (D : ℕ) (d : Depth) → at_most D d ≡ true → (h : ℕ) × (d ≡ At h) × (h ≤ D)
+depth_low : (D : ℕ) (d : Option ℕ) → at_most D d ≡ true → (h : ℕ) × (d ≡ Some h) × (h ≤ D)
 unfolding at_most
-depth_low D (At h) e = (h, refl, leb-true h D e)
-depth_low D Ring e = absurd (false≢true e)
+depth_low D (Some h) e = (h, refl, leb-true h D e)
+depth_low D None e = absurd (false≢true e)
 
 -- a depth gives the test
-low_depth : (D : ℕ) (d : Depth) (h : ℕ) → d ≡ At h → h ≤ D → at_most D d ≡ true
+low_depth : (D : ℕ) (d : Option ℕ) (h : ℕ) → d ≡ Some h → h ≤ D → at_most D d ≡ true
 unfolding at_most
 low_depth D d h e l = rw e (le-leb h D l)
 

@@ -12,8 +12,9 @@ use native.Mathlib.Omega.{arith}
 use Rattle.lists.specs.Tests.{all, any}
 use Rattle.lists.specs.Sums.{nth}
 use Rattle.lists.proofs.Tests.{all_head, all_tail, all_cons}
-use Rattle.links.specs.Links.{Link, link_ok, has_ends, ascending, present}
-use Rattle.links.specs.Survey.{Survey}
+use Rattle.links.specs.Links.{link_ok, has_ends, ascending, present}
+use Rattle.links.specs.declared.Link.{Link}
+use Rattle.links.specs.Survey.{IsSurvey}
 use Rattle.links.proofs.Altered.{link_of, ends_yes, rises_ascends, rises_none}
 use Rattle.spanning.specs.Parents.{is_used, tree_links}
 use Rattle.spanning.specs.Spanning.{Joins, along, back, Linked, here, there, Sub, end, keep, skip}
@@ -43,7 +44,7 @@ rising_distinct N (l ∷ ls) o e = (
 )
 
 -- nor in a survey's links
-pub survey_distinct : (N : ℕ) (ls : List Link) → Survey N ls → Distinct ls
+pub survey_distinct : (N : ℕ) (ls : List Link) → IsSurvey N ls → Distinct ls
 survey_distinct N ls s = rising_distinct N ls s.each s.rises
 
 -- the neighbours that a link joins have its ends

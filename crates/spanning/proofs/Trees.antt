@@ -9,9 +9,10 @@ use native.Mathlib.Decide.{ℕ_discrete}
 use native.Mathlib.Omega.{arith}
 use Rattle.lists.specs.Sums.{same, nth}
 use Rattle.lists.proofs.Sums.{same_yes, sum_to_two}
-use Rattle.links.specs.Links.{Link, link_ok, degree}
-use Rattle.links.specs.Survey.{Survey}
-use Rattle.spanning.specs.declared.Depth.TheVariants.{At}
+use Rattle.links.specs.Links.{link_ok, degree}
+use Rattle.links.specs.declared.Link.{Link}
+use Rattle.links.specs.Survey.{IsSurvey}
+use Rattle.std.specs.Prelude.{Some}
 use Rattle.spanning.specs.Parents.{deepest, depth_of, roots_of, is_rooted, neighbours, tree_links}
 use Rattle.spanning.specs.Spanning.{Linked, Reach, stay, go, Sub, Spanning}
 use Rattle.spanning.proofs.Shape.{Shape, shape_of, shape_test, linked_flip}
@@ -49,7 +50,7 @@ record ToRoot (N : ℕ) (T : List Link) (p : List ℕ) (v : ℕ) : Type 0 where
   no_parent : nth p root ≡ 0
   reached : Reach T v root
 
-module _ (N D : ℕ) (ls : List Link) (p : List ℕ) (s : Survey N ls) (t : Shape N D ls p) where
+module _ (N D : ℕ) (ls : List Link) (p : List ℕ) (s : IsSurvey N ls) (t : Shape N D ls p) where
   -- there is one root only
   only_root : (u v : ℕ) → 1 ≤ u → u ≤ N → 1 ≤ v → v ≤ N → nth p u ≡ 0 → nth p v ≡ 0 → u ≡ v
   unfolding roots_of
@@ -60,7 +61,7 @@ module _ (N D : ℕ) (ls : List Link) (p : List ℕ) (s : Survey N ls) (t : Shap
       ]
 
   -- it is reached parent by parent, in as many steps as the depth
-  climb : (h v : ℕ) → 1 ≤ v → v ≤ N → depth_of p N v ≡ At h → ToRoot N (tree_links p ls) p v
+  climb : (h v : ℕ) → 1 ≤ v → v ≤ N → depth_of p N v ≡ Some h → ToRoot N (tree_links p ls) p v
   climb zero v a b e =
       elim (ℕ_discrete (nth p v) 0) [
         | yes q ↦ record { root = v; root_low = a; root_high = b; no_parent = q; reached = stay }
@@ -72,7 +73,7 @@ module _ (N D : ℕ) (ls : List Link) (p : List ℕ) (s : Survey N ls) (t : Shap
         | no n ↦
             let d = depth_parent p N v (suc h) e n in
             let i = parent_in N D ls p s t v a b n in
-            let r = climb h (nth p v) i.0 i.1 (d.2 ∙ ap At (sym (suc_inj d.1))) in
+            let r = climb h (nth p v) i.0 i.1 (d.2 ∙ ap Some (sym (suc_inj d.1))) in
             record {
               root = r.root;
               root_low = r.root_low;
@@ -91,13 +92,13 @@ module _ (N D : ℕ) (ls : List Link) (p : List ℕ) (s : Survey N ls) (t : Shap
       reach_trans x.reached (subst (λ (r : ℕ). Reach (tree_links p ls) r b) e (reach_flip y.reached))
 
 -- a rooted tree's links are a spanning tree
-pub rooted_spanning : (N D : ℕ) (ls : List Link) (p : List ℕ) → Survey N ls → is_rooted N D ls p ≡ true → Spanning N ls (tree_links p ls)
+pub rooted_spanning : (N D : ℕ) (ls : List Link) (p : List ℕ) → IsSurvey N ls → is_rooted N D ls p ≡ true → Spanning N ls (tree_links p ls)
 rooted_spanning N D ls p s e =
     let t = shape_of N D ls p e in
     record { sub = tree_sub p ls; count = tree_count N D ls p s t; joined = joined N D ls p s t }
 
 -- a meter is an end of as many of them as it has neighbours
-pub rooted_degree : (N D : ℕ) (ls : List Link) (p : List ℕ) → Survey N ls → is_rooted N D ls p ≡ true → (m : ℕ) → 1 ≤ m → m ≤ N → degree m (tree_links p ls) ≡ neighbours N p m
+pub rooted_degree : (N D : ℕ) (ls : List Link) (p : List ℕ) → IsSurvey N ls → is_rooted N D ls p ≡ true → (m : ℕ) → 1 ≤ m → m ≤ N → degree m (tree_links p ls) ≡ neighbours N p m
 rooted_degree N D ls p s e = tree_degree N D ls p s (shape_of N D ls p e)
 
 -- ---- from a spanning tree to a rooted tree
@@ -106,7 +107,7 @@ rooted_degree N D ls p s e = tree_degree N D ls p s (shape_of N D ls p e)
 shape_sub : (N D : ℕ) (T ls : List Link) (p : List ℕ) → Sub T ls → Shape N D T p → Shape N D ls p
 shape_sub N D T ls p i t = record { len = t.len; one_root = t.one_root; linked = λ v a b n. sub_linked i (t.linked v a b n); low = t.low }
 
-module _ (N D : ℕ) (ls T : List Link) (p : List ℕ) (s : Survey N ls) (i : Sub T ls) (t : Shape N D T p) where
+module _ (N D : ℕ) (ls T : List Link) (p : List ℕ) (s : IsSurvey N ls) (i : Sub T ls) (t : Shape N D T p) where
   -- of all links it uses neighbours over its own only
   own : (a b : ℕ) → Linked a b ls → Uses p a b → Linked a b T
   own a b k (child e) =
@@ -121,7 +122,7 @@ module _ (N D : ℕ) (ls T : List Link) (p : List ℕ) (s : Survey N ls) (i : Su
   uses_all c = sub_full (tree_within p i (survey_distinct N ls s) own) (suc_inj (tree_count N D ls p s (shape_sub N D T ls p i t) ∙ sym c))
 
 -- every spanning tree has a root with no depth over N/2
-pub shallow_root : (N : ℕ) (ls T : List Link) → Survey N ls → Spanning N ls T → (p : List ℕ) × (is_rooted N (deepest N) ls p ≡ true) × (tree_links p ls ≡ T)
+pub shallow_root : (N : ℕ) (ls T : List Link) → IsSurvey N ls → Spanning N ls T → (p : List ℕ) × (is_rooted N (deepest N) ls p ≡ true) × (tree_links p ls ≡ T)
 unfolding deepest
 shallow_root N ls T s g =
     let r = tree_over N T (sub_all (link_ok N) g.sub s.each) s.meters_low (λ x a b. g.joined 1 x (omega arith) s.meters_low a b) in

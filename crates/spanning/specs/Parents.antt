@@ -1,10 +1,9 @@
 -- Rooted trees as lists of parents, in document 01's words for the plans of trees: "each meter's parent, 0 for the single root". Assumes nothing.
-use Rattle.std.specs.Prelude.{ℕ, zero, suc, ◌+◌, ◌/◌, Bool, false, ◌||◌, cond, List, [], ◌∷◌, length, eqb, leb}
+use Rattle.std.specs.Prelude.{ℕ, zero, suc, ◌+◌, ◌/◌, Bool, false, ◌||◌, cond, List, [], ◌∷◌, length, eqb, leb, Option, Some, None}
 use Rattle.lists.specs.Tests.{every, all, from}
 use Rattle.lists.specs.Sums.{sum_to, same, differ, nth}
-use Rattle.links.specs.Links.{Link, present}
-use Rattle.spanning.specs.declared.Depth.{Depth}
-use Rattle.spanning.specs.declared.Depth.TheVariants.{At, Ring}
+use Rattle.links.specs.Links.{present}
+use Rattle.links.specs.declared.Link.{Link}
 
 -- "D is N/2 rounded down"
 unfoldable pub deepest : ℕ → ℕ
@@ -13,24 +12,24 @@ deepest N = N / 2
 -- ---- depths; the parent of meter v is nth p v
 
 -- "one more than the parent's"
-abbrev pub deeper : Depth → Depth
-deeper (At h) = At (suc h)
-deeper Ring = Ring
+abbrev pub deeper : Option ℕ → Option ℕ
+deeper (Some h) = Some (suc h)
+deeper None = None
 
 -- "0 at the root and otherwise one more than the parent's", where the parent is u and has the depth h
-abbrev pub under : ℕ → Depth → Depth
-under zero h = At 0
+abbrev pub under : ℕ → Option ℕ → Option ℕ
+under zero h = Some 0
 under (suc u) h = deeper h
 
--- "The depth is found by recursion": that of meter v, with k steps allowed up the parents; a ring uses them all up
-unfoldable pub depth_of : List ℕ → ℕ → ℕ → Depth
-depth_of p zero v = Ring
+-- "The depth is found by recursion": that of meter v, with k steps allowed up the parents; a ring uses them all up, and there is none
+unfoldable pub depth_of : List ℕ → ℕ → ℕ → Option ℕ
+depth_of p zero v = None
 depth_of p (suc k) v = under (nth p v) (depth_of p k (nth p v))
 
 -- "no depth exceeds D"; "a ring of parents is no plan"
-unfoldable pub at_most : ℕ → Depth → Bool
-at_most D (At h) = leb h D
-at_most D Ring = false
+unfoldable pub at_most : ℕ → Option ℕ → Bool
+at_most D (Some h) = leb h D
+at_most D None = false
 
 -- ---- trees over links
 

@@ -1,6 +1,7 @@
 -- Spanning trees, as document 01 defines them: "any N - 1 of the image's links over which each meter can be reached from every other, with no root or depth asked". Assumes nothing.
 use Rattle.std.specs.Prelude.{ℕ, suc, ◌≤◌, ◌≡◌, List, [], ◌∷◌, length}
-use Rattle.links.specs.Links.{Link, degree, total}
+use Rattle.links.specs.Links.{degree, total}
+use Rattle.links.specs.declared.Link.{Link}
 
 -- the ends of link l are a and b
 pub data Joins (l : Link) (a b : ℕ) : Type 0 where

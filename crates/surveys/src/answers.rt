@@ -1,31 +1,36 @@
 // What the library answers, as it is printed.
-use plans::{Decoded, Number};
+use plans::{Decoded, Refusal};
 use std::io::Write;
 use std::{fmt, io};
 
 /// A space and a value, or the number of a refusal.
-#[derive(Drop)]
-pub struct Answer(pub Number);
+#[derive(Clone, Copy)]
+pub struct Answer<T>(pub Result<T, Refusal>);
 
-impl fmt::Display for Answer {
+impl<T: fmt::Display> fmt::Display for Answer<T> {
     fn fmt<W: fmt::Write>(&self, f: &mut fmt::Formatter<W>) -> fmt::Result {
-        match self.0 {
-            Number::Value(z) => write!(f, " {z}"),
-            Number::Refused(number) => write!(f, " refused {number}"),
+        match &self.0 {
+            Ok(value) => write!(f, " {value}"),
+            Err(refusal) => write!(f, " refused {}", refusal.number()),
         }
     }
 }
 
-/// A plan's weight and how many meters were repaired, or the number of a refusal.
-#[derive(Drop)]
+/// A plan's weight and how many meters were repaired.
+#[derive(Clone, Copy)]
 pub struct Decoding(pub Decoded);
 
 impl fmt::Display for Decoding {
     fn fmt<W: fmt::Write>(&self, f: &mut fmt::Formatter<W>) -> fmt::Result {
-        match self.0 {
-            Decoded::Plan { weight, repaired } => write!(f, " {weight} {repaired}"),
-            Decoded::Refused(number) => write!(f, " refused {number}"),
-        }
+        write!(f, "{} {}", self.0.weight, self.0.repaired)
+    }
+}
+
+/// The number of the refusal, 0 where there is none.
+pub fn number<T: Drop>(answer: Result<T, Refusal>) -> u64 {
+    match answer {
+        Ok(_) => 0,
+        Err(refusal) => refusal.number(),
     }
 }
 

@@ -1,7 +1,7 @@
 // Calls that read an image for what is asked. What is lent is printed after the call, so that a line shows what was altered too: numbers lent are 77 at first, and bytes 7.
 ghost use Rattle.std.specs.Prelude.{◌≡◌, IfOk, min, vec_len};
 
-use crate::answers::{Answer, Decoding, differing, write_bytes};
+use crate::answers::{Answer, Decoding, differing, number, write_bytes};
 use crate::words::{self, MOST_BYTES, Numbers};
 use plans::Ask;
 use std::alloc::{AllocError, Global};
@@ -53,9 +53,9 @@ impl Row {
     pub fn show(self, alloc: Global, out: &mut impl Write, image: &[u8]) -> io::Result<()> {
         let mut places = lent_numbers(alloc, self.count)?;
         let mut others = lent_numbers(alloc, self.count)?;
-        let refusal = plans::row_refusal(image, self.ask, self.index, places.as_slice());
+        let refusal = number(plans::row_refusal(image, self.ask, self.index, places.as_slice()));
         let len = plans::row(image, self.ask, self.index, places.as_mut_slice()).len();
-        let filled = plans::fill_row(image, self.ask, self.index, others.as_mut_slice());
+        let filled = number(plans::fill_row(image, self.ask, self.index, others.as_mut_slice()));
         let different = differing(places.as_slice(), others.as_slice());
         write!(out, ": {refusal} {len} {filled} {different}")?;
         for z in places.iter().take(SHOWN) {
@@ -88,7 +88,8 @@ impl Coding {
         let bits = self.given.as_slice();
         let mut plan = lent_bytes(alloc, self.count)?;
         let energy = Answer(plans::energy(image, self.ask, bits));
-        let decoding = Decoding(plans::decode(image, self.ask, bits, plan.as_mut_slice()));
+        let decoded = plans::decode(image, self.ask, bits, plan.as_mut_slice());
+        let decoding = Answer(decoded.map(Decoding));
         write!(out, ":{energy}{decoding}")?;
         write_bytes(out, plan.as_slice())
     }
@@ -97,8 +98,8 @@ impl Coding {
     pub fn show_encode(&self, alloc: Global, out: &mut impl Write, image: &[u8]) -> io::Result<()> {
         let plan = self.given.as_slice();
         let mut bits = lent_bytes(alloc, self.count)?;
-        let number = plans::encode(image, self.ask, plan, bits.as_mut_slice());
-        write!(out, ": {number}")?;
+        let refusal = number(plans::encode(image, self.ask, plan, bits.as_mut_slice()));
+        write!(out, ": {refusal}")?;
         write_bytes(out, bits.as_slice())
     }
 }

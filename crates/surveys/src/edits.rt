@@ -1,9 +1,9 @@
 // Calls that alter an image, each with the number that it returns and how many bytes it altered.
 ghost use Rattle.std.specs.Prelude.{◌<◌, ◌≤◌};
 
-use crate::answers::differing;
-use crate::readings;
+use crate::answers::{differing, number};
 use crate::words::{self, Numbers};
+use plans::Refusal;
 use std::alloc::Global;
 use std::io;
 use std::io::Write;
@@ -20,7 +20,7 @@ pub enum Edit {
 }
 
 impl Edit {
-    fn make(self, image: &mut [u8]) -> u64 {
+    fn make(self, image: &mut [u8]) -> Result<(), Refusal> {
         match self {
             Edit::Begin(meters) => plans::begin(image, meters),
             Edit::Add(u, v, weight) => plans::add(image, u, v, weight),
@@ -31,10 +31,10 @@ impl Edit {
     /// Makes the edit; the number returned, and how many bytes were altered.
     pub fn show(self, alloc: Global, out: &mut impl Write, image: &mut [u8]) -> io::Result<()> {
         let old = image.to_vec(alloc)?;
-        let number = self.make(image);
+        let refusal = number(self.make(image));
         write!(
             out,
-            ": {number}, altered {}",
+            ": {refusal}, altered {}",
             differing(old.as_slice(), image)
         )
     }
@@ -66,7 +66,7 @@ impl Circle {
     fn add_link(self, image: &mut [u8], k: u64) -> bool {
         let from = k % self.meters;
         let on = (from + self.step) % self.meters;
-        plans::add(image, from + 1, on + 1, self.weight) == 0
+        plans::add(image, from + 1, on + 1, self.weight).is_ok()
     }
 
     /// Adds the links; how many are accepted.
@@ -118,10 +118,10 @@ impl Byte {
 }
 
 fn write_calls(out: &mut impl Write, image: &mut [u8]) -> io::Result<()> {
-    let check = site::check(image);
-    let added = plans::add(image, 3, 4, 9);
-    let removed = plans::remove(image, 1, 2);
-    let read = readings::refusal(image);
+    let check = number(site::check(image));
+    let added = number(plans::add(image, 3, 4, 9));
+    let removed = number(plans::remove(image, 1, 2));
+    let read = number(site::read(image, &mut [site::NO_LINK; 256]));
     write!(
         out,
         ": check {check}, add {added}, remove {removed}, read {read}"

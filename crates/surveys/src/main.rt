@@ -13,12 +13,15 @@ mod words;
 
 use crate::session::Session;
 use std::io;
-use std::io::{BufRead, BufReader, BufWriter, Write};
+use std::io::{BufRead, BufReader, BufWriter, Read, Write};
+
+// So many bytes of input are read; lines behind them are not carried out.
+const MOST_READ: u64 = 32768;
 
 // Line by line; the last one may have no end. A line need not be text.
 fn main(rt: HostRuntime) -> io::Result<()> {
     let alloc = rt.alloc();
-    let input = BufReader::new(alloc, rt.reader())?;
+    let input = BufReader::new(alloc, rt.reader().take(MOST_READ))?;
     let mut out = BufWriter::new(alloc, io::writer(&rt))?;
     let mut session = Session::new();
     for line in input.split(alloc, b'\n') {

@@ -3,7 +3,7 @@ ghost use Rattle.std.specs.Prelude.{◌≤◌};
 
 use crate::asks::lent_bytes;
 use crate::words::Numbers;
-use plans::{Ask, Decoded, Number};
+use plans::{Ask, Refusal};
 use std::alloc::Global;
 use std::io;
 use std::io::Write;
@@ -53,8 +53,14 @@ impl Search {
         }
     }
 
-    // Codes the plan, or decodes the bits, that have the digits of a number. Gives the number that the call returns.
-    fn try_one(&self, image: &[u8], plan: &mut [u8], bits: &mut [u8], number: u64) -> u64 {
+    // Codes the plan, or decodes the bits, that have the digits of a number.
+    fn try_one(
+        &self,
+        image: &[u8],
+        plan: &mut [u8],
+        bits: &mut [u8],
+        number: u64,
+    ) -> Result<(), Refusal> {
         match self.candidates {
             Candidates::Plans => {
                 self.put_digits(plan, number);
@@ -62,7 +68,7 @@ impl Search {
             }
             Candidates::Assignments => {
                 self.put_digits(bits, number);
-                number_of(plans::decode(image, self.ask, bits, plan))
+                plans::decode(image, self.ask, bits, plan).map(|_| ())
             }
         }
     }
@@ -76,11 +82,13 @@ impl Search {
         let mut least: Option<i64> = None;
         for k in 0..self.count {
             match self.try_one(image, plan.as_mut_slice(), bits.as_mut_slice(), k) {
-                0 => accepted += 1,
-                12 => refused += 1,
-                _ => {}
+                Ok(()) => accepted += 1,
+                Err(Refusal::NoPlan) => refused += 1,
+                Err(_) => {}
             }
-            least = lower(least, plans::energy(image, self.ask, bits.as_slice()));
+            if let Ok(energy) = plans::energy(image, self.ask, bits.as_slice()) {
+                least = Some(least.map_or(energy, |least| least.min(energy)));
+            }
         }
         write!(
             out,
@@ -91,22 +99,5 @@ impl Search {
             Some(energy) => write!(out, ", least energy {energy}"),
             None => Ok(()),
         }
-    }
-}
-
-// The lower of the least energy so far and another.
-fn lower(least: Option<i64>, energy: Number) -> Option<i64> {
-    match (least, energy) {
-        (Some(least), Number::Value(z)) => Some(least.min(z)),
-        (None, Number::Value(z)) => Some(z),
-        (_, Number::Refused(_)) => least,
-    }
-}
-
-// The number that decoding returns, 0 where it gives a plan.
-fn number_of(given: Decoded) -> u64 {
-    match given {
-        Decoded::Plan { .. } => 0,
-        Decoded::Refused(number) => number,
     }
 }

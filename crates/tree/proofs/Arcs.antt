@@ -9,8 +9,9 @@ use native.Mathlib.Decide.{ℕ_discrete, dec_le}
 use native.Mathlib.Nat.{zero-mul, mul_comm}
 use Rattle.lists.specs.Sums.{sum_of, same}
 use Rattle.lists.proofs.Sums.{same_yes, same_no, sum_of_add}
-use Rattle.links.specs.Links.{Link, has_ends, times_of}
-use Rattle.links.specs.Survey.{Survey}
+use Rattle.links.specs.Links.{has_ends, times_of}
+use Rattle.links.specs.declared.Link.{Link}
+use Rattle.links.specs.Survey.{IsSurvey}
 use Rattle.links.proofs.Altered.{ends_u_fact, ends_v_fact, ends_yes, ends_no, ascending_once, times_sum, times_falling}
 use Rattle.spanning.specs.Spanning.{along, back, Linked, here, there}
 use Rattle.spanning.proofs.Shape.{linked_flip}
@@ -44,7 +45,7 @@ arcs_times ls u v =
     ∙ sym (ap₂ ◌+◌ (times_sum u v ls) (times_sum v u ls))
 
 -- at most one arc leads from u to v
-pub arcs_once : (N : ℕ) (ls : List Link) → Survey N ls → (u v : ℕ) → arcs_leading (arcs ls) u v ≤ 1
+pub arcs_once : (N : ℕ) (ls : List Link) → IsSurvey N ls → (u v : ℕ) → arcs_leading (arcs ls) u v ≤ 1
 arcs_once N ls s u v =
     elim (dec_le u v) [
       | yes h ↦ omega (arith, arcs_times ls u v, ascending_once ls u v s.rises, times_falling N ls s.each v u h)

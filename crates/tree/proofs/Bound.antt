@@ -4,8 +4,8 @@ use mathlib.Core.Path.{◌≡◌}
 use mathlib.Core.List.{List, [], ◌∷◌, ◌++◌}
 use native.Mathlib.Omega.{arith}
 use lib.ListN.{length}
-use Rattle.links.specs.Links.{Link}
-use Rattle.links.specs.Survey.{Survey}
+use Rattle.links.specs.declared.Link.{Link}
+use Rattle.links.specs.Survey.{IsSurvey}
 use Rattle.qubo.specs.Formula.{Formula}
 use Rattle.qubo.specs.Norm.{formula_norm}
 use Rattle.qubo.proofs.Families.{norm_append}
@@ -36,7 +36,7 @@ norms f₁ f₂ f₃ f₄ f₅ f₆ f₇ =
     )
 
 -- for any D up to 24
-pub norm_to : (D A N d : ℕ) (ls : List Link) → Survey N ls → D ≤ 24 → d ≤ 47 → A ≤ 20000000 → formula_norm (formula_to D A N d ls) < 2 ^ 54
+pub norm_to : (D A N d : ℕ) (ls : List Link) → IsSurvey N ls → D ≤ 24 → d ≤ 47 → A ≤ 20000000 → formula_norm (formula_to D A N d ls) < 2 ^ 54
 unfolding formula_to
 norm_to D A N d ls s f e a =
     let n = s.meters_high in
@@ -53,5 +53,5 @@ norm_to D A N d ls s f e a =
     )
 
 -- with 01's
-pub formula_norm_fact : (A N d : ℕ) (ls : List Link) → Survey N ls → d ≤ 47 → A ≤ 20000000 → formula_norm (formula A N d ls) < 2 ^ 54
+pub formula_norm_fact : (A N d : ℕ) (ls : List Link) → IsSurvey N ls → d ≤ 47 → A ≤ 20000000 → formula_norm (formula A N d ls) < 2 ^ 54
 formula_norm_fact A N d ls s = norm_to (deepest N) A N d ls s (deepest_few N s.meters_high)

@@ -9,8 +9,8 @@ use native.Mathlib.Omega.{arith}
 use native.Mathlib.Decide.{ℕ_discrete}
 use Rattle.lists.specs.Sums.{sum_to, sum_of, same}
 use Rattle.lists.proofs.Sums.{same_no, sum_to_same, sum_to_none}
-use Rattle.links.specs.Links.{Link}
-use Rattle.links.specs.Survey.{Survey}
+use Rattle.links.specs.declared.Link.{Link}
+use Rattle.links.specs.Survey.{IsSurvey}
 use Rattle.qubo.specs.Formula.{Assignment}
 use Rattle.qubo.specs.Best.{CodesPlan}
 use Rattle.spanning.specs.Parents.{deepest}
@@ -39,7 +39,7 @@ one_or_none D h l =
       | no e ↦ omega (arith, sum_to_same D h (omega arith) l)
     ]
 
-module _ (N d : ℕ) (ls : List Link) (s : Survey N ls) (n2 : 2 ≤ N) (x : List ℕ) (a : Assignment (bit_count N (length ls) d) x) where
+module _ (N d : ℕ) (ls : List Link) (s : IsSurvey N ls) (n2 : 2 ≤ N) (x : List ℕ) (a : Assignment (bit_count N (length ls) d) x) where
   -- where it is 0, the candidate is a plan, and the bits are its code
   pub broken_plan : broken N (deepest N) d (arcs ls) (bits_of N (deepest N) (length ls) d x) ≡ 0 → (is_plan N d ls (candidate N ls x) ≡ true) × (x ≡ code_of N d ls (candidate N ls x))
   unfolding candidate_to bits_of

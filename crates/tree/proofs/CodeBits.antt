@@ -9,7 +9,7 @@ use native.Mathlib.Omega.{arith}
 use native.Mathlib.Decide.{dec_lt}
 use native.Mathlib.Nat.{mul-zero, suc-mul, mul-le-mul, le_refl, mod-lt, div-add-mod', div-lt_iff_lt-mul}
 use Rattle.lists.specs.Sums.{same}
-use Rattle.links.specs.Links.{Link}
+use Rattle.links.specs.declared.Link.{Link}
 use Rattle.qubo.specs.Formula.{Bits, Assignment}
 use Rattle.onehot.specs.Choices.{code}
 use Rattle.onehot.proofs.Codes.{each_length, each_at, bits_append, code_length, code_small, code_at}

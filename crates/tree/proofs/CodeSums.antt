@@ -12,8 +12,9 @@ use native.Mathlib.Nat.{mul-zero, zero-mul, one-mul, mul-one, mul_assoc, mul_com
 use Rattle.lists.specs.Sums.{same, nth}
 use Rattle.lists.proofs.Sums.{same_yes, same_no, gap_squared_same, sum_to_eq, sum_to_none, sum_to_same, sum_of_le, nth_suc, on_same, same_turn, sum_to_at}
 use Rattle.lists.proofs.Members.{sum_of_eq, sum_of_none, sum_of_mul}
-use Rattle.links.specs.Links.{Link, total}
-use Rattle.links.specs.Survey.{LinkOf, Survey}
+use Rattle.links.specs.Links.{total}
+use Rattle.links.specs.declared.Link.{Link}
+use Rattle.links.specs.Survey.{LinkOf, IsSurvey}
 use Rattle.links.proofs.Altered.{link_in_fact}
 use Rattle.qubo.specs.Terms.{each}
 use Rattle.onehot.specs.Choices.{set_at, miss_squared, misses}
@@ -63,7 +64,7 @@ ends_none h x i l =
       | no e ↦ rw (same_no (suc h) i e, mul-zero x) (zero-mul _)
     ]
 
-module _ (N D : ℕ) (ls : List Link) (p : List ℕ) (s : Survey N ls) (t : Shape N D ls p) where
+module _ (N D : ℕ) (ls : List Link) (p : List ℕ) (s : IsSurvey N ls) (t : Shape N D ls p) where
   -- ---- the sums of depths and arcs
 
   -- one meter is at depth 0
@@ -169,7 +170,7 @@ module _ (N D : ℕ) (ls : List Link) (p : List ℕ) (s : Survey N ls) (t : Shap
 
 -- ---- the code of a plan
 
-module _ (N d : ℕ) (ls : List Link) (s : Survey N ls) where
+module _ (N d : ℕ) (ls : List Link) (s : IsSurvey N ls) where
   -- the sum that A multiplies is 0
   pub code_broken : 2 ≤ N → (p : List ℕ) → is_plan N d ls p ≡ true → broken N (deepest N) d (arcs ls) (bits_of N (deepest N) (length ls) d (code_of N d ls p)) ≡ 0
   code_broken n2 p e =

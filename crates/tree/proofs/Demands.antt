@@ -12,8 +12,9 @@ use native.Mathlib.Omega.{arith}
 use borrow.Author.Tests.{eqb-true}
 use Rattle.lists.specs.Tests.{every}
 use Rattle.lists.proofs.Tests.{and_left}
-use Rattle.links.specs.Links.{Link, total}
-use Rattle.links.specs.Survey.{Survey}
+use Rattle.links.specs.Links.{total}
+use Rattle.links.specs.declared.Link.{Link}
+use Rattle.links.specs.Survey.{IsSurvey}
 use Rattle.qubo.specs.Formula.{Assignment}
 use Rattle.qubo.specs.Instance.{Instance, energy_of, LeastEnergy, CodesPlan}
 use Rattle.qubo.proofs.TableBound.{table_bound}
@@ -44,7 +45,7 @@ plan_bytes_fact : (N d : ℕ) (ls : List Link) (p : List ℕ) → is_plan N d ls
 unfolding is_plan is_rooted every
 plan_bytes_fact N d ls p e = eqb-true (length p) N (and_left (eqb (length p) N) _ (and_left (is_rooted N (deepest N) ls p) _ e))
 
-module _ (N d : ℕ) (ls : List Link) (s : Survey N ls) (w : within_limits N d ≡ true) where
+module _ (N d : ℕ) (ls : List Link) (s : IsSurvey N ls) (w : within_limits N d ≡ true) where
   -- ---- plans and spanning trees
 
   -- "every spanning tree has a root with no depth over D"

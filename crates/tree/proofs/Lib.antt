@@ -1,5 +1,4 @@
 pub mod Trial
-pub mod Answers
 pub mod Asking
 pub mod Arcs
 pub mod Agree

@@ -11,8 +11,9 @@ use Rattle.lists.specs.Tests.{all, any, from}
 use Rattle.lists.specs.Sums.{sum_to, sum_of, same, differ, nth}
 use Rattle.lists.proofs.Tests.{or_left, or_right, all_head, all_tail, all_from, from_all}
 use Rattle.lists.proofs.Sums.{same_yes, same_no, differ_yes, differ_no, differ_le, sum_to_eq, sum_to_none, sum_to_single, sum_to_add, sum_to_less, sum_to_const}
-use Rattle.links.specs.Links.{Link, link_ok, has_ends, present, times_of}
-use Rattle.links.specs.Survey.{LinkOf, Survey}
+use Rattle.links.specs.Links.{link_ok, has_ends, present, times_of}
+use Rattle.links.specs.declared.Link.{Link}
+use Rattle.links.specs.Survey.{LinkOf, IsSurvey}
 use Rattle.links.proofs.Altered.{link_of, ends_yes, ends_no, ascending_once}
 use Rattle.spanning.specs.Parents.{linked, parent_linked, roots_of}
 
@@ -43,7 +44,7 @@ module _ (a b : ℕ) where
       rw (ends_no a b l (λ p q. h (omega (arith, k.u_low)) (omega (arith, k.ordered))), times_order N ls (all_tail (link_ok N) l ls o) h) refl
 
 -- at most one link joins two meters
-times_once : (N : ℕ) (ls : List Link) (a b : ℕ) → Survey N ls → times_of a b ls + times_of b a ls ≤ 1
+times_once : (N : ℕ) (ls : List Link) (a b : ℕ) → IsSurvey N ls → times_of a b ls + times_of b a ls ≤ 1
 times_once N ls a b s =
     elim (dec_lt a b) [
       | yes h ↦ omega (arith, ascending_once ls a b s.rises, times_order b a N ls s.each (λ p q. omega arith))
@@ -97,7 +98,7 @@ module _ (p : List ℕ) where
       split = sum_to_eq N (links_to (l ∷ ls)) (λ m. (down l m + up l m) + links_to ls m) (λ i a b. omega arith) ∙ sum_to_add N (λ m. down l m + up l m) (links_to ls) ∙ ap (λ (t : ℕ). t + sum_to N (links_to ls)) (sum_to_add N (down l) (up l))
 
   -- at a root none, elsewhere at most one
-  links_to_le : (N : ℕ) (ls : List Link) (m : ℕ) → Survey N ls → links_to ls m ≤ differ (nth p m) 0
+  links_to_le : (N : ℕ) (ls : List Link) (m : ℕ) → IsSurvey N ls → links_to ls m ≤ differ (nth p m) 0
   unfolding links_to
   links_to_le N ls m s =
       elim (ℕ_discrete (nth p m) 0) [
@@ -106,7 +107,7 @@ module _ (p : List ℕ) where
       ]
 
   -- just one, where the parent is linked
-  links_to_yes : (N : ℕ) (ls : List Link) (m : ℕ) → Survey N ls → parent_linked p ls m ≡ true → links_to ls m ≡ differ (nth p m) 0
+  links_to_yes : (N : ℕ) (ls : List Link) (m : ℕ) → IsSurvey N ls → parent_linked p ls m ≡ true → links_to ls m ≡ differ (nth p m) 0
   unfolding parent_linked linked links_to
   links_to_yes N ls m s e =
       elim (ℕ_discrete (nth p m) 0) [
@@ -143,7 +144,7 @@ module _ (p : List ℕ) where
       one : (x : ℕ) → differ x 0 + same x 0 ≡ 1
       one x = elim (ℕ_discrete x 0) [ yes e ↦ omega (arith, differ_no x 0 e, same_yes x 0 e) | no e ↦ omega (arith, differ_yes x 0 e, same_no x 0 e) ]
 
-  pub all_linked : (N : ℕ) (ls : List Link) → Survey N ls → all (parent_linked p ls) (from 1 N) ≡ true ↔ sum_of ls joining + roots_of N p ≡ N
+  pub all_linked : (N : ℕ) (ls : List Link) → IsSurvey N ls → all (parent_linked p ls) (from 1 N) ≡ true ↔ sum_of ls joining + roots_of N p ≡ N
   all_linked N ls s = (
     λ e. omega (arith, joining_sum N ls s.each, parents_roots N, sum_to_eq N (links_to ls) (λ v. differ (nth p v) 0) (λ i a b. links_to_yes N ls i s (all_from (parent_linked p ls) 1 N i e a (omega arith)))),
     λ e. from_all (parent_linked p ls) 1 N (λ i a b. links_to_no ls i (omega (arith, links_to_le N ls i s, joining_sum N ls s.each, parents_roots N, sum_to_less N (links_to ls) (λ v. differ (nth p v) 0) i a (omega arith) (λ j x y. links_to_le N ls j s)))),

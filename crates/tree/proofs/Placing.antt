@@ -12,18 +12,19 @@ use borrow.Author.Tests.{eqb-true, leb-true}
 use Rattle.lists.specs.Sums.{nth}
 use Rattle.lists.proofs.Sums.{nth_past}
 use Rattle.lists.proofs.Tests.{and_left, and_right, every_at, all_from}
-use Rattle.links.specs.Links.{Link, links_of}
+use Rattle.qubo.specs.Decoding.{code_after}
+use Rattle.links.specs.declared.Link.{Link}
 use Rattle.onehot.specs.Choices.{code}
 use Rattle.onehot.proofs.Codes.{each_at, code_length}
 use Rattle.spanning.specs.Parents.{deepest, depth_of, at_most, is_rooted, neighbours}
-use Rattle.spanning.specs.declared.Depth.{Depth}
-use Rattle.spanning.specs.declared.Depth.TheVariants.{At, Ring}
+use Rattle.std.specs.Prelude.{Option, Some, None}
 use Rattle.spanning.proofs.Depths.{depth_root}
 use Rattle.spanning.proofs.Recursion.{nth_none, depth_none}
 use Rattle.arcs.specs.Arcs.{arcs, depths_end, arcs_end}
 use Rattle.tree.specs.Formula.{bit_count}
 use Rattle.tree.specs.Plans.{few_neighbours, is_plan, bit_of_depth, arc_depth, depth_choices, arc_choice, arc_choices, count_choices, code_of}
 use Rattle.tree.specs.Inner.{placed}
+use Rattle.tree.specs.Instance.{instance}
 use Rattle.tree.proofs.Filling.{depths_length, counts_length, arc_choices_length}
 
 -- ---- a part in its place
@@ -69,10 +70,10 @@ placed_all A B C xs k l ek el e =
 -- ---- the choices of a plan
 
 -- a depth up to D
-depth_bit_in : (D : ℕ) (o : Depth) → at_most D o ≡ true → (bit_of_depth o ≤ suc D) × (arc_depth o ≤ D)
+depth_bit_in : (D : ℕ) (o : Option ℕ) → at_most D o ≡ true → (bit_of_depth o ≤ suc D) × (arc_depth o ≤ D)
 unfolding at_most
-depth_bit_in D (At h) e = let l : h ≤ D = leb-true h D e in (omega arith, l)
-depth_bit_in D Ring e = absurd (false≢true e)
+depth_bit_in D (Some h) e = let l : h ≤ D = leb-true h D e in (omega arith, l)
+depth_bit_in D None e = absurd (false≢true e)
 
 -- a bound on each entry of a list
 map_in : {A : Type 0} (f : A → ℕ) (D : ℕ) → ((a : A) → f a ≤ D) → (l : List A) (k : ℕ) → get_or (map f l) k 0 ≤ D
@@ -125,11 +126,11 @@ module _ (N D d : ℕ) (ls : List Link) (p : List ℕ) (is : D ≡ deepest N) (e
       one false v = omega arith
 
   -- no count bit above d
-  pub counts_in_fact : (v : ℕ) → v < length p → get_or (count_choices (length p) p) v 0 ≤ d
+  pub counts_in_fact : (v : ℕ) → v < N → get_or (count_choices N p) v 0 ≤ d
   unfolding count_choices is_plan few_neighbours
   counts_in_fact v h =
-      rw (each_at (length p) (neighbours (length p) p) v h, plan_length)
-      (leb-true (neighbours N p (suc v)) d (all_from (λ u. leb (neighbours N p u) d) 1 N (suc v) (and_right (is_rooted N (deepest N) ls p) _ e) (omega arith) (omega (arith, plan_length))))
+      rw (each_at N (neighbours N p) v h)
+      (leb-true (neighbours N p (suc v)) d (all_from (λ u. leb (neighbours N p u) d) 1 N (suc v) (and_right (is_rooted N (deepest N) ls p) _ e) (omega arith) (omega arith)))
 
 -- ---- the bits of a code
 
@@ -137,25 +138,25 @@ module _ (N D d M l : ℕ) (is : D ≡ deepest N) (bits : l ≡ bit_count N M d)
   bits_are : l ≡ arcs_end N D M + N * d
   bits_are = rw is bits
 
-  -- there is room for the first two parts, and for the last, with as many meters as the plan is long
+  -- there is room for each part
   pub bits_first : depths_end N D ≤ l
   bits_first = omega (arith, bits_are)
 
   pub bits_second : arcs_end N D M ≤ l
   bits_second = omega (arith, bits_are)
 
-  pub bits_third : (k : ℕ) → k ≡ N → arcs_end N D M + k * d ≤ l
-  bits_third k e = rw e (omega (arith, bits_are))
+  pub bits_third : arcs_end N D M + N * d ≤ l
+  bits_third = omega (arith, bits_are)
 
-module _ (N D d M : ℕ) (ls : List Link) (p : List ℕ) (is : D ≡ deepest N) (count : length ls ≡ M) (size : length p ≡ N) where
+module _ (N D d M : ℕ) (ls : List Link) (p : List ℕ) (is : D ≡ deepest N) (count : length ls ≡ M) where
   -- the three parts in their places are the code
   pub code_whole : (x₀ x₁ x₂ x₃ : List ℕ) → length x₀ ≡ bit_count N M d
       → x₁ ≡ placed 0 (code (suc D) (depth_choices N p)) x₀
       → x₂ ≡ placed (depths_end N D) (code D (arc_choices N ls p)) x₁
-      → x₃ ≡ placed (arcs_end N D M) (code d (count_choices (length p) p)) x₂
+      → x₃ ≡ placed (arcs_end N D M) (code d (count_choices N p)) x₂
       → x₃ ≡ code_of N d ls p
   unfolding code_of
-  code_whole x₀ x₁ x₂ x₃ e e₁ e₂ e₃ = rw (e₃, e₂, e₁, all, is, size) refl
+  code_whole x₀ x₁ x₂ x₃ e e₁ e₂ e₃ = rw (e₃, e₂, e₁, all, is) refl
     where
       a : length (code (suc D) (depth_choices N p)) ≡ depths_end N D
       a = code_length (suc D) (depth_choices N p) ∙ ap (λ t. t * suc D) (depths_length N p)
@@ -163,21 +164,20 @@ module _ (N D d M : ℕ) (ls : List Link) (p : List ℕ) (is : D ≡ deepest N) 
       b : length (code D (arc_choices N ls p)) ≡ 2 * M * D
       b = code_length D (arc_choices N ls p) ∙ ap (λ t. t * D) (arc_choices_length N ls p ∙ ap (λ t. 2 * t) count)
 
-      g : length (code d (count_choices (length p) p)) ≡ N * d
-      g = code_length d (count_choices (length p) p) ∙ ap (λ t. t * d) (counts_length (length p) p ∙ size)
+      g : length (code d (count_choices N p)) ≡ N * d
+      g = code_length d (count_choices N p) ∙ ap (λ t. t * d) (counts_length N p)
 
-      all : placed (arcs_end N D M) (code d (count_choices (length p) p)) (placed (depths_end N D) (code D (arc_choices N ls p)) (placed 0 (code (suc D) (depth_choices N p)) x₀)) ≡ code (suc D) (depth_choices N p) ++ code D (arc_choices N ls p) ++ code d (count_choices (length p) p)
-      all = placed_all (code (suc D) (depth_choices N p)) (code D (arc_choices N ls p)) (code d (count_choices (length p) p)) x₀ (depths_end N D) (arcs_end N D M) (sym a) (omega (arith, a, b)) (omega (arith, a, b, g, bits_are N D d M (length x₀) is e))
+      all : placed (arcs_end N D M) (code d (count_choices N p)) (placed (depths_end N D) (code D (arc_choices N ls p)) (placed 0 (code (suc D) (depth_choices N p)) x₀)) ≡ code (suc D) (depth_choices N p) ++ code D (arc_choices N ls p) ++ code d (count_choices N p)
+      all = placed_all (code (suc D) (depth_choices N p)) (code D (arc_choices N ls p)) (code d (count_choices N p)) x₀ (depths_end N D) (arcs_end N D M) (sym a) (omega (arith, a, b)) (omega (arith, a, b, g, bits_are N D d M (length x₀) is e))
 
--- ---- encode_plan
+-- ---- the code where there is a plan
 
--- t is what the test of a plan said, whatever the weights are
-module _ (N d : ℕ) (us vs p : List ℕ) (t : Bool) (is : (ws : List ℕ) → t ≡ is_plan N d (links_of us vs ws) p) where
-  -- no plan: the bits are as they were
-  pub coded_none : t ≡ false → (bits : List ℕ) → ((ws : List ℕ) → false ≡ is_plan N d (links_of us vs ws) p) × ((ws : List ℕ) → bits ≡ cond (is_plan N d (links_of us vs ws) p) (code_of N d (links_of us vs ws) p) bits)
-  coded_none n bits = (λ ws. sym n ∙ is ws, λ ws. let e : is_plan N d (links_of us vs ws) p ≡ false = sym (is ws) ∙ n in rw e refl)
+-- no plan: the bits are as they were
+pub coded_none : (N d : ℕ) (ls : List Link) (A : ℕ) (p x : List ℕ) → is_plan N d ls p ≡ false → x ≡ code_after (instance A N d ls) p x
+unfolding code_after
+coded_none N d ls A p x n = rw n refl
 
-  -- a plan: they are its code
-  pub coded_plan : t ≡ true → (bits x : List ℕ) → ((ws : List ℕ) → x ≡ code_of N d (links_of us vs ws) p)
-      → ((ws : List ℕ) → true ≡ is_plan N d (links_of us vs ws) p) × ((ws : List ℕ) → x ≡ cond (is_plan N d (links_of us vs ws) p) (code_of N d (links_of us vs ws) p) bits)
-  coded_plan y bits x h = (λ ws. sym y ∙ is ws, λ ws. let e : is_plan N d (links_of us vs ws) p ≡ true = sym (is ws) ∙ y in rw e (h ws))
+-- a plan: they are its code
+pub coded_plan : (N d : ℕ) (ls : List Link) (A : ℕ) (p x y : List ℕ) → is_plan N d ls p ≡ true → y ≡ code_of N d ls p → y ≡ code_after (instance A N d ls) p x
+unfolding code_after
+coded_plan N d ls A p x y t e = rw (t, e) refl

@@ -8,8 +8,9 @@ use native.Mathlib.Decide.{ℕ_discrete}
 use lib.Dec.{eqb, leb}
 use borrow.Author.Tests.{leb-true, le-leb, eq-eqb}
 use Rattle.lists.proofs.Tests.{and_left, and_right, and_both, all_from, from_all}
-use Rattle.links.specs.Links.{Link, is_at, degree, total}
-use Rattle.links.specs.Survey.{Survey}
+use Rattle.links.specs.Links.{is_at, degree, total}
+use Rattle.links.specs.declared.Link.{Link}
+use Rattle.links.specs.Survey.{IsSurvey}
 use Rattle.qubo.specs.Best.{LeastPlan}
 use Rattle.spanning.specs.Parents.{deepest, is_rooted, neighbours, tree_links}
 use Rattle.spanning.specs.Spanning.{along, back, Linked, here, there, Reach, stay, go, Spanning, WithinLimit, BestTree}
@@ -52,7 +53,7 @@ reach_degree n stay = absurd (n refl)
 reach_degree n (go r k) = linked_degree k
 
 -- so has every meter of a tree of two or more
-pub some_neighbour : (N D : ℕ) (ls : List Link) (p : List ℕ) → Survey N ls → 2 ≤ N → is_rooted N D ls p ≡ true → (v : ℕ) → 1 ≤ v → v ≤ N → 1 ≤ neighbours N p v
+pub some_neighbour : (N D : ℕ) (ls : List Link) (p : List ℕ) → IsSurvey N ls → 2 ≤ N → is_rooted N D ls p ≡ true → (v : ℕ) → 1 ≤ v → v ≤ N → 1 ≤ neighbours N p v
 some_neighbour N D ls p s n2 t v a b =
     let q : 1 ≤ degree v (tree_links p ls) =
     elim (ℕ_discrete v 1) [
@@ -63,7 +64,7 @@ some_neighbour N D ls p s n2 t v a b =
 
 -- ---- plans and spanning trees
 
-module _ (N d : ℕ) (ls : List Link) (s : Survey N ls) where
+module _ (N d : ℕ) (ls : List Link) (s : IsSurvey N ls) where
   -- a plan's links are a spanning tree within the limit, of the same weight
   pub plan_spanning : (p : List ℕ) → is_plan N d ls p ≡ true → Spanning N ls (tree_links p ls) × WithinLimit N d (tree_links p ls) × (total (tree_links p ls) ≡ tree_weight ls p)
   unfolding tree_weight

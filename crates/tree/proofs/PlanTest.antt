@@ -1,127 +1,133 @@
 -- Laws that the proofs of src/plans.rt cite: each test of a plan, and all of them together. Assumes nothing.
-use Prim.Native.Nat.{ℕ, suc, ◌+◌, ◌-◌, ◌≤◌, ◌<◌}
+use Prim.Native.Nat.{ℕ, zero, suc, ◌+◌, ◌-◌, ◌≤◌, ◌<◌}
 use mathlib.Core.Path.{◌≡◌, refl, sym, ap, ap₂, ◌∙◌, fun_ext}
-use mathlib.Core.Bool.{Bool, true, false, ◌&&◌, ◌||◌}
+use mathlib.Core.Bool.{Bool, true, false, ◌&&◌, cond}
 use mathlib.Core.List.{List, [], ◌∷◌}
 use lib.ListN.{length, get_or}
 use lib.Dec.{eqb, leb}
+use mir.Val.{bool_byte}
 use native.Mathlib.Omega.{arith}
 use native.Mathlib.Numerals.{add-one}
-use native.Mathlib.Decide.{ℕ_discrete}
-use borrow.Author.Tests.{eq-eqb, ne_eqb, le-leb, lt-leb}
+use borrow.Author.Tests.{eq-eqb, ne_eqb, le-leb, lt-leb, leb-true}
 use Rattle.lists.specs.Tests.{every, all, from}
 use Rattle.lists.specs.Sums.{sum_to, sum_of, same, nth}
-use Rattle.lists.proofs.Tests.{and_true, from_all, from_not}
-use Rattle.lists.proofs.Sums.{same_yes, same_no, same_one, differ_yes, differ_no}
-use Rattle.links.specs.Links.{Link, total, link_in, links_of}
-use Rattle.links.specs.Survey.{Survey, Ends}
-use Rattle.links.proofs.Arrays.{present_any}
-use Rattle.links.proofs.Walk.{Summed, summed_turn, summed_end}
+use Rattle.lists.proofs.Tests.{and_right, and_both, and_true, same_test, all_head, all_tail, all_cons, all_from, from_all}
+use Rattle.lists.proofs.Sums.{same_le, differ_yes, differ_no}
+use Rattle.links.specs.Links.{total}
+use Rattle.links.specs.declared.Link.{Link}
+use Rattle.links.specs.Survey.{IsSurvey}
+use Rattle.lists.proofs.Walks.{Summed, summed_end}
+use Rattle.qubo.specs.Terms.{each}
+use Rattle.onehot.specs.Choices.{are_choices}
+use Rattle.onehot.proofs.Codes.{each_length, each_at}
 use Rattle.onehot.proofs.Counts.{count_le}
-use Rattle.spanning.specs.Parents.{deepest, depth_of, at_most, linked, parent_linked, roots_of, is_rooted, neighbours, is_used}
-use Rattle.spanning.specs.declared.Depth.{Depth}
-use Rattle.spanning.specs.declared.Depth.TheVariants.{At, Ring}
+use Rattle.spanning.specs.Parents.{deepest, depth_of, at_most, parent_linked, roots_of, is_rooted, neighbours, is_used}
+use Rattle.std.specs.Prelude.{Option, Some, None}
+use Rattle.std.specs.List.{list_all, range_with_len}
 use Rattle.spanning.proofs.Counting.{used_sum}
 use Rattle.tree.specs.Plans.{bit_of_depth, depth_choices, few_neighbours, is_plan, tree_weight}
-use Rattle.tree.specs.Inner.{Counted, used_weight}
-use Rattle.tree.proofs.Filling.{lent_next, lent_at}
+use Rattle.tree.specs.Inner.{Counted}
 use Rattle.tree.proofs.ParentLinks.{joining, all_linked}
 
 -- ---- parent_links
 
--- the links before k that join a meter to its parent are counted, whatever the weights are
-abbrev pub Joined : List ℕ → List ℕ → List ℕ → ℕ → ℕ → Type 0
-Joined p us vs k count = (ws : List ℕ) → Summed us vs ws (joining p) k count
+-- a test as a number
+byte_same : (r : Bool) (a b : ℕ) → r ≡ eqb a b → bool_byte r ≡ same a b
+unfolding same
+byte_same r a b e = rw e (one (eqb a b))
+  where
+    one : (t : Bool) → bool_byte t ≡ cond t 1 0
+    one true = refl
+    one false = refl
 
--- with as many meters as a plan is long
-pub ends_plan : (N : ℕ) (us vs : List ℕ) → Ends N us vs → (k : ℕ) → k ≡ N → Ends k us vs
-ends_plan N us vs a k e = rw e a
+pub joined_link : (p : List ℕ) (l : Link) (up down : Bool) → up ≡ eqb (nth p l.u) l.v → down ≡ eqb (nth p l.v) l.u → bool_byte up + bool_byte down ≡ joining p l
+unfolding joining
+joined_link p l up down e f = ap₂ ◌+◌ (byte_same up (nth p l.u) l.v e) (byte_same down (nth p l.v) l.u f)
 
-module _ (p us vs : List ℕ) (k count : ℕ) (s : Joined p us vs k count) where
-  -- a turn counts the link at k
-  pub joined_turn : (up down : ℕ) → k < length us → up ≡ same (nth p (get_or us k 0)) (get_or vs k 0) → down ≡ same (nth p (get_or vs k 0)) (get_or us k 0) → Joined p us vs (k + 1) (count + (up + down))
-  unfolding joining link_in
-  joined_turn up down h e f ws = summed_turn us vs ws (joining p) k count (s ws) (up + down) h (ap₂ ◌+◌ e f)
+-- each end of a link is the other's parent or not
+pub joining_le : (p : List ℕ) (l : Link) → joining p l ≤ 2
+unfolding joining
+joining_le p l = omega (arith, same_le (nth p l.u) l.v, same_le (nth p l.v) l.u)
 
-  -- in the end all are counted
-  pub joined_end : length us ≤ k → (ws : List ℕ) → count ≡ sum_of (links_of us vs ws) (λ l. same (nth p l.u) l.v + same (nth p l.v) l.u)
-  unfolding joining
-  joined_end h ws = summed_end us vs ws (joining p) k count (s ws) h
+-- in the end all are counted
+pub joined_end : (p : List ℕ) (ls : List Link) (k count : ℕ) → Summed (joining p) ls k count → length ls ≤ k → count ≡ sum_of ls (λ l. same (nth p l.u) l.v + same (nth p l.v) l.u)
+unfolding joining
+joined_end p ls k count s h = summed_end (joining p) ls k count s h
 
--- ---- weight_used and tree_weight
+-- ---- tree_weight
 
--- up and down tell for which of the ends u and v of a link the other is the parent
-module _ (p : List ℕ) (u v w up down : ℕ) (e : up ≡ same (nth p u) v) (f : down ≡ same (nth p v) u) (l : Link) (eu : l.u ≡ u) (ev : l.v ≡ v) (ew : l.weight ≡ w) where
-  -- for none
-  pub weight_none : up + down ≡ 0 → 0 ≡ used_weight p l
-  unfolding used_weight is_used
-  weight_none z = rw (eu, ev, ne_eqb (nth p u) v (λ q. let w : ⊥ = omega (arith, same_yes (nth p u) v q) in w), ne_eqb (nth p v) u (λ q. let w : ⊥ = omega (arith, same_yes (nth p v) u q) in w)) refl
+-- one of the two tests of a link settles it
+pub used_first : (p : List ℕ) (l : Link) (r : Bool) → r ≡ eqb (nth p l.u) l.v → r ≡ true → r ≡ is_used p l
+unfolding is_used
+used_first p l r e z = let t : eqb (nth p l.u) l.v ≡ true = sym e ∙ z in rw (t, z) refl
 
-  -- for one: the weight counts
-  pub weight_some : (up + down ≡ 0 → ⊥) → w ≡ used_weight p l
-  unfolding used_weight is_used
-  weight_some n =
-      rw (eu, ev, ew)
-      (elim (ℕ_discrete (nth p u) v) [
-        | yes q ↦ rw (eq-eqb (nth p u) v q) refl
-        | no q ↦ rw (ne_eqb (nth p u) v q, eq-eqb (nth p v) u (same_one (nth p v) u (omega (arith, n, same_no (nth p u) v q)))) refl
-      ])
+pub used_second : (p : List ℕ) (l : Link) (r s : Bool) → r ≡ eqb (nth p l.u) l.v → r ≡ false → s ≡ eqb (nth p l.v) l.u → s ≡ is_used p l
+unfolding is_used
+used_second p l r s e z f = let t : eqb (nth p l.u) l.v ≡ false = sym e ∙ z in rw t f
+
+-- the weight of a link where one end is the other's parent, else 0
+unfoldable pub used_weight : List ℕ → Link → ℕ
+used_weight p l = cond (is_used p l) l.weight 0
+
+pub weight_none : (p : List ℕ) (l : Link) (r : Bool) → r ≡ is_used p l → r ≡ false → 0 ≡ used_weight p l
+unfolding used_weight
+weight_none p l r e z = let f : is_used p l ≡ false = sym e ∙ z in rw f refl
+
+pub weight_some : (p : List ℕ) (l : Link) (r : Bool) → r ≡ is_used p l → r ≡ true → l.weight ≡ used_weight p l
+unfolding used_weight
+weight_some p l r e z = let t : is_used p l ≡ true = sym e ∙ z in rw t refl
 
 -- in the end all links are weighed
-pub weighed_end : (p us vs ws : List ℕ) (k sum : ℕ) → Summed us vs ws (used_weight p) k sum → length us ≤ k → sum ≡ tree_weight (links_of us vs ws) p
+pub weighed_end : (p : List ℕ) (ls : List Link) (k sum : ℕ) → Summed (used_weight p) ls k sum → length ls ≤ k → sum ≡ tree_weight ls p
 unfolding tree_weight total used_weight
-weighed_end p us vs ws k sum s h = summed_end us vs ws (used_weight p) k sum s h ∙ sym (used_sum p (λ l. l.weight) (links_of us vs ws))
+weighed_end p ls k sum s h = summed_end (used_weight p) ls k sum s h ∙ sym (used_sum p (λ l. l.weight) ls)
 
--- ---- depth_bit and depths_within
+-- ---- depth_bit, and whether no depth exceeds D
 
 -- a depth's bit is one more than the depth
-pub bit_at : (o : Depth) (h : ℕ) → o ≡ At h → h + 1 ≡ bit_of_depth o
+pub bit_at : (o : Option ℕ) (h : ℕ) → o ≡ Some h → h + 1 ≡ bit_of_depth o
 bit_at o h e = add-one h ∙ sym (ap bit_of_depth e)
 
--- a ring has none
-pub bit_ring : (o : Depth) → o ≡ Ring → 0 ≡ bit_of_depth o
-bit_ring o e = sym (ap bit_of_depth e)
-
--- a depth is at most D where its bit is one of 1..D+1
-depth_yes : (D : ℕ) (o : Depth) → (bit_of_depth o ≡ 0 → ⊥) → bit_of_depth o ≤ suc D → at_most D o ≡ true
+-- a depth is at most D just where its bit is one of 1..D+1
+depth_test : (D : ℕ) (o : Option ℕ) → (leb 1 (bit_of_depth o) && leb (bit_of_depth o) (suc D)) ≡ at_most D o
 unfolding at_most
-depth_yes D (At h) n l = le-leb h D (omega arith)
-depth_yes D Ring n l = absurd (n refl)
+depth_test D (Some h) =
+    same_test (leb 1 (suc h) && leb (suc h) (suc D)) (leb h D)
+    (λ e. le-leb h D (omega (arith, leb-true (suc h) (suc D) (and_right (leb 1 (suc h)) _ e))))
+    (λ e. and_both (leb 1 (suc h)) _ (le-leb 1 (suc h) (omega arith)) (le-leb (suc h) (suc D) (omega (arith, leb-true h D e))))
+depth_test D None = rw (lt-leb 1 0 (omega arith)) refl
 
--- and above D where it is a later one
-depth_no : (D : ℕ) (o : Depth) → (bit_of_depth o ≡ 0 → ⊥) → suc D < bit_of_depth o → at_most D o ≡ false
-unfolding at_most
-depth_no D (At h) n l = lt-leb h D (omega arith)
-depth_no D Ring n l = absurd (n refl)
+-- a test of every entry of a list, by index
+module _ (g : ℕ → Bool) where
+  all_index : (xs : List ℕ) → all g xs ≡ true → (k : ℕ) → k < length xs → g (get_or xs k 0) ≡ true
+  all_index [] e k h = absurd (omega arith)
+  all_index (x ∷ xs) e zero h = all_head g x xs e
+  all_index (x ∷ xs) e (suc k) h = all_index xs (all_tail g x xs e) k (omega arith)
 
--- a ring has no depth
-depth_none : (D : ℕ) (o : Depth) → bit_of_depth o ≡ 0 → at_most D o ≡ false
-unfolding at_most
-depth_none D (At h) e = absurd (let z : ⊥ = omega arith in z)
-depth_none D Ring e = refl
+  index_all : (xs : List ℕ) → ((k : ℕ) → k < length xs → g (get_or xs k 0) ≡ true) → all g xs ≡ true
+  unfolding all
+  index_all [] h = refl
+  index_all (x ∷ xs) h = all_cons g x xs (h 0 (omega arith)) (index_all xs (λ k l. h (suc k) (omega arith)))
 
--- entry k of the bits l of all depths is one of 1..D+1
-abbrev pub DepthIn : List ℕ → ℕ → ℕ → Type 0
-DepthIn l D k = (get_or l k 0 ≡ 0 → ⊥) × (get_or l k 0 ≤ suc D)
+  all_each : (f : ℕ → ℕ) (N : ℕ) → all g (each N f) ≡ all (λ v. g (f v)) (from 1 N)
+  all_each f N =
+      same_test (all g (each N f)) (all (λ v. g (f v)) (from 1 N)) (λ e. from_all (λ v. g (f v)) 1 N (there e))
+      (λ e. index_all (each N f) (λ k h. let l : k < N = omega (arith, each_length N f) in rw (each_at N f k l) (all_from (λ v. g (f v)) 1 N (suc k) e (omega arith) (omega arith))))
+    where
+      there : all g (each N f) ≡ true → (v : ℕ) → 1 ≤ v → v < 1 + N → g (f v) ≡ true
+      there e zero a b = absurd (omega arith)
+      there e (suc k) a b = let l : k < N = omega arith in rw (each_at N f k l) at (all_index (each N f) e k (omega (arith, each_length N f)))
 
-module _ (N D : ℕ) (p l : List ℕ) (e : l ≡ depth_choices N p) where
-  -- a meter in a ring fails the test
-  pub depths_ring : (k : ℕ) → k < N → get_or l k 0 ≡ 0 → false ≡ all (λ v. at_most D (depth_of p N v)) (from 1 N)
-  depths_ring k h z = sym (from_not (λ v. at_most D (depth_of p N v)) 1 N (suc k) (omega arith) (omega arith) (depth_none D (depth_of p N (suc k)) (sym (lent_next N p l e k h) ∙ z)))
+-- the bits of all depths are choices among 1..D+1 just where no depth exceeds D and none is missing
+pub depths_tested : (N D : ℕ) (p : List ℕ) → are_choices N (suc D) (depth_choices N p) ≡ all (λ v. at_most D (depth_of p N v)) (from 1 N)
+unfolding are_choices depth_choices
+depths_tested N D p =
+    rw (eq-eqb (length (each N (λ v. bit_of_depth (depth_of p N v)))) N (each_length N (λ v. bit_of_depth (depth_of p N v))))
+    (all_each (λ c. leb 1 c && leb c (suc D)) (λ v. bit_of_depth (depth_of p N v)) N ∙ ap (λ (t : ℕ → Bool). all t (from 1 N)) (fun_ext (λ v. depth_test D (depth_of p N v))))
 
-  -- so does one that is too deep
-  pub depths_over : (k : ℕ) → k < N → (get_or l k 0 ≡ 0 → ⊥) → suc D < get_or l k 0 → false ≡ all (λ v. at_most D (depth_of p N v)) (from 1 N)
-  depths_over k h n g =
-      let b = lent_next N p l e k h in
-      sym (from_not (λ v. at_most D (depth_of p N v)) 1 N (suc k) (omega arith) (omega arith) (depth_no D (depth_of p N (suc k)) (λ z. n (b ∙ z)) (omega (arith, b))))
-
-  -- with no such meter it holds
-  pub depths_yes : (k : ℕ) → k ≡ N → ((i : ℕ) → i < k → DepthIn l D i) → true ≡ all (λ v. at_most D (depth_of p N v)) (from 1 N)
-  depths_yes k m h =
-      sym (from_all (λ v. at_most D (depth_of p N v)) 1 N (λ v a g.
-      let b = lent_at N p l e v a (omega arith) in
-      let i = h (v - 1) (omega arith) in
-      depth_yes D (depth_of p N v) (λ z. i.0 (b ∙ z)) (omega (arith, b, i.1))))
+-- as the code makes the test, where w is 01's D
+pub depths_allowed : (N w : ℕ) (p q : List ℕ) (r : Bool) → w ≡ deepest N → q ≡ depth_choices N p → r ≡ are_choices N (w + 1) q → r ≡ all (λ v. at_most (deepest N) (depth_of p N v)) (from 1 N)
+depths_allowed N w p q r e d t = t ∙ rw (e, d, add-one) (depths_tested N (deepest N) p)
 
 -- ---- neighbours_at and within_limit
 
@@ -140,16 +146,15 @@ module _ (p counts : List ℕ) (k : Counted p counts) where
   unfolding neighbours
   neighbours_more v n = (omega (arith, k.each v, differ_yes (nth p v) 0 n), omega (arith, children_few v))
 
-module _ (p : List ℕ) (N d : ℕ) where
-  -- a meter with more than d neighbours fails the test
-  pub limit_over : (v : ℕ) → 1 ≤ v → v ≤ N → d < neighbours N p v → false ≡ few_neighbours N d p
-  unfolding few_neighbours
-  limit_over v l h e = sym (from_not (λ u. leb (neighbours N p u) d) 1 N v l (omega arith) (lt-leb (neighbours N p v) d e))
+-- a test of the meters behind a, n of them, each found from the meter before it
+tested_from : (g : ℕ → Bool) (a n : ℕ) → list_all (λ k. g (k + 1)) (range_with_len a n) ≡ all g (from (suc a) n)
+unfolding all from
+tested_from g a zero = refl
+tested_from g a (suc n) = rw add-one (ap (λ t. g (suc a) && t) (tested_from g (suc a) n))
 
-  -- with no such meter it holds
-  pub limit_yes : (v : ℕ) → v ≡ N → ((u : ℕ) → 1 ≤ u → u ≤ v → neighbours N p u ≤ d) → true ≡ few_neighbours N d p
-  unfolding few_neighbours
-  limit_yes v e h = sym (from_all (λ u. leb (neighbours N p u) d) 1 N (λ u a b. le-leb (neighbours N p u) d (h u a (omega arith))))
+pub limit_tested : (N d : ℕ) (p : List ℕ) (t : Bool) → t ≡ list_all (λ k. leb (neighbours N p (k + 1)) d) (range_with_len 0 N) → t ≡ few_neighbours N d p
+unfolding few_neighbours
+limit_tested N d p t e = e ∙ tested_from (λ v. leb (neighbours N p v) d) 0 N
 
 -- ---- is_plan: the tests in turn
 
@@ -175,34 +180,26 @@ module _ (N : ℕ) (p : List ℕ) (roots : ℕ) (size : length p ≡ N) (are : r
   pub roots_other : (roots ≡ 1 → ⊥) → roots_of N p ≡ 1 → ⊥
   roots_other n e = n (sym roots_are ∙ e)
 
--- the weights of the links have no part in it: what the test says with some it says with any
-pub plan_any : (N d : ℕ) (us vs ws p : List ℕ) (r : Bool) → r ≡ is_plan N d (links_of us vs ws) p → (xs : List ℕ) → r ≡ is_plan N d (links_of us vs xs) p
-unfolding is_plan is_rooted parent_linked linked
-plan_any N d us vs ws p r e xs =
-    e
-    ∙ ap (λ (f : ℕ → ℕ → Bool). every (eqb (length p) N ∷ eqb (roots_of N p) 1 ∷ all (λ v. eqb (nth p v) 0 || (f v (nth p v) || f (nth p v) v)) (from 1 N) ∷ all (λ v. at_most (deepest N) (depth_of p N v)) (from 1 N) ∷ []) && few_neighbours N d p)
-    (fun_ext (λ a. fun_ext (λ b. present_any a b us vs ws xs)))
-
 module _ (N d : ℕ) (ls : List Link) (p : List ℕ) where
   -- not as many parents as meters
-  pub plan_size : (length p ≡ N → ⊥) → false ≡ is_plan N d ls p
+  pub plan_size : (length p ≡ N → ⊥) → is_plan N d ls p ≡ false
   unfolding is_plan is_rooted every
   plan_size h = rw (ne_eqb (length p) N h) refl
 
   module _ (size : length p ≡ N) where
     -- none or several roots
-    pub plan_root : (roots_of N p ≡ 1 → ⊥) → false ≡ is_plan N d ls p
+    pub plan_root : (roots_of N p ≡ 1 → ⊥) → is_plan N d ls p ≡ false
     unfolding is_plan is_rooted every
     plan_root h = rw (eq-eqb (length p) N size, ne_eqb (roots_of N p) 1 h) refl
 
     -- a meter with too many neighbours
-    pub plan_crowded : few_neighbours (length p) d p ≡ false → false ≡ is_plan N d ls p
+    pub plan_crowded : few_neighbours (length p) d p ≡ false → is_plan N d ls p ≡ false
     unfolding is_plan
     plan_crowded f = let g : few_neighbours N d p ≡ false = rw (← size) f in rw (g, and_false) refl
 
-    module _ (root : roots_of N p ≡ 1) (s : Survey N ls) (joined : ℕ) (are : joined ≡ sum_of ls (λ l. same (nth p l.u) l.v + same (nth p l.v) l.u)) where
+    module _ (root : roots_of N p ≡ 1) (s : IsSurvey N ls) (joined : ℕ) (are : joined ≡ sum_of ls (λ l. same (nth p l.u) l.v + same (nth p l.v) l.u)) where
       -- a parent that is no linked neighbour
-      pub plan_unlinked : (joined ≡ N - 1 → ⊥) → false ≡ is_plan N d ls p
+      pub plan_unlinked : (joined ≡ N - 1 → ⊥) → is_plan N d ls p ≡ false
       unfolding is_plan is_rooted every joining
       plan_unlinked h =
           let e : all (parent_linked p ls) (from 1 N) ≡ false = refuted _ (λ t. h (omega (arith, (all_linked p N ls s).0 t))) in
@@ -220,6 +217,6 @@ module _ (N d : ℕ) (ls : List Link) (p : List ℕ) where
         rooted_is = rw (eq-eqb (length p) N size, eq-eqb (roots_of N p) 1 root, links_yes, and_true) refl
 
         -- and with no meter that has too many neighbours, whether it is a plan
-        pub plan_is : few_neighbours (length p) d p ≡ true → (r : Bool) → r ≡ all (λ v. at_most (deepest N) (depth_of p N v)) (from 1 N) → r ≡ is_plan N d ls p
+        pub plan_is : few_neighbours (length p) d p ≡ true → (r : Bool) → r ≡ all (λ v. at_most (deepest N) (depth_of p N v)) (from 1 N) → is_plan N d ls p ≡ r
         unfolding is_plan
-        plan_is f r e = let g : few_neighbours N d p ≡ true = rw (← size) f in rw (rooted_is, g, and_true) e
+        plan_is f r e = let g : few_neighbours N d p ≡ true = rw (← size) f in rw (rooted_is, g, and_true) (sym e)

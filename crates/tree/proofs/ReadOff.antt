@@ -9,11 +9,11 @@ use native.Mathlib.Nat.{mul-zero, mul_comm}
 use Rattle.lists.specs.Sums.{sum_to, sum_of, same, nth}
 use Rattle.lists.proofs.Sums.{same_yes, same_no, same_le, sum_to_eq, sum_to_hot, nth_suc, same_iff, same_times, same_none, same_both, sum_to_at, sum_to_some}
 use Rattle.lists.proofs.Members.{sum_of_eq, sum_of_term, sum_of_hot}
-use Rattle.links.specs.Links.{Link}
-use Rattle.links.specs.Survey.{Survey}
+use Rattle.links.specs.declared.Link.{Link}
+use Rattle.links.specs.Survey.{IsSurvey}
 use Rattle.qubo.specs.Terms.{each}
 use Rattle.onehot.proofs.Codes.{each_length, each_at}
-use Rattle.spanning.specs.declared.Depth.TheVariants.{At}
+use Rattle.std.specs.Prelude.{Some}
 use Rattle.spanning.specs.Parents.{depth_of, roots_of, neighbours}
 use Rattle.spanning.specs.Spanning.{Linked}
 use Rattle.spanning.proofs.Shape.{Shape, linked_flip}
@@ -33,7 +33,7 @@ use Rattle.tree.proofs.Unbroken.{Unbroken, depth_read, depth_le, depth_is, both_
 
 -- ---- the parents read off are a rooted tree
 
-module _ (N D d : ℕ) (ls : List Link) (s : Survey N ls) (b : TreeBits) (c : Unbroken N D d (arcs ls) b) where
+module _ (N D d : ℕ) (ls : List Link) (s : IsSurvey N ls) (b : TreeBits) (c : Unbroken N D d (arcs ls) b) where
   -- the parent read off for a meter
   abbrev parent_of : ℕ → ℕ
   parent_of v = parent_read D (arcs ls) b.arc v
@@ -48,16 +48,16 @@ module _ (N D d : ℕ) (ls : List Link) (s : Survey N ls) (b : TreeBits) (c : Un
   nth_parents (suc k) p q = nth_suc parents k ∙ each_at N parent_of k q
 
   -- each depth is the one that its bits give
-  depth_read_fact : (k v : ℕ) → 1 ≤ v → v ≤ N → depth_read D b v < k → depth_of parents k v ≡ At (depth_read D b v)
+  depth_read_fact : (k v : ℕ) → 1 ≤ v → v ≤ N → depth_read D b v < k → depth_of parents k v ≡ Some (depth_read D b v)
   depth_read_fact zero v p q l = absurd (omega arith)
   depth_read_fact (suc k) v p q l = go (λ u. depth_read_fact k u) (placed N D d ls s b c v p q)
     where
-      go : ((u : ℕ) → 1 ≤ u → u ≤ N → depth_read D b u < k → depth_of parents k u ≡ At (depth_read D b u)) → Placed N D d ls s b c v → depth_of parents (suc k) v ≡ At (depth_read D b v)
-      go ih (inl (e, h)) = depth_root parents (suc k) v (omega arith) (nth_parents v p q ∙ e) ∙ ap At (sym h)
+      go : ((u : ℕ) → 1 ≤ u → u ≤ N → depth_read D b u < k → depth_of parents k u ≡ Some (depth_read D b u)) → Placed N D d ls s b c v → depth_of parents (suc k) v ≡ Some (depth_read D b v)
+      go ih (inl (e, h)) = depth_root parents (suc k) v (omega arith) (nth_parents v p q ∙ e) ∙ ap Some (sym h)
       go ih (inr (a1, a2, h, j)) =
           depth_child parents k v (depth_read D b (parent_of v)) (λ z. omega (arith, nth_parents v p q))
           (ap (depth_of parents k) (nth_parents v p q) ∙ ih (parent_of v) a1 a2 (omega arith))
-          ∙ ap At (sym h)
+          ∙ ap Some (sym h)
 
   -- just the meters at depth 0 are roots
   root_bit : (v : ℕ) → 1 ≤ v → v ≤ N → same (nth parents v) 0 ≡ b.dep v 0

@@ -1,6 +1,6 @@
 -- The parents read off the arcs of an assignment, arc by arc: at each meter what is read so far and what is left make up the whole. Assumes nothing.
 use Prim.Native.Nat.{ℕ, zero, suc, pred, ◌+◌, ◌-◌, ◌*◌, ◌≤◌, ◌<◌}
-use mathlib.Core.Path.{◌≡◌, refl, sym, ap, ◌∙◌, fun_ext}
+use mathlib.Core.Path.{◌≡◌, refl, sym, ap, ◌∙◌}
 use mathlib.Core.List.{List, [], ◌∷◌, Memᴰ}
 use lib.ListN.{length, get_or, set, length-set, get_or-eq_default}
 use lib.Seq.{ext_get_or}
@@ -10,17 +10,16 @@ use native.Mathlib.Nat.{mul-le-mul, mul-le-mul_left, mul-le-mul_right, add-le-ad
 use Rattle.lists.specs.Sums.{sum_to, sum_of, same, nth}
 use Rattle.lists.proofs.Sums.{same_yes, same_no, sum_of_times, nth_index, nth_suc}
 use Rattle.lists.proofs.Stores.{added_here, added_elsewhere, added_same}
-use Rattle.links.specs.Links.{links_of}
-use Rattle.links.specs.Survey.{Survey}
+use Rattle.links.specs.Links.{link_in}
+use Rattle.links.specs.declared.Link.{Link}
+use Rattle.links.specs.Survey.{IsSurvey}
 use Rattle.qubo.specs.Formula.{Bits}
-use Rattle.qubo.specs.Terms.{each}
 use Rattle.onehot.proofs.Codes.{each_length, each_at}
 use Rattle.onehot.proofs.Parts.{one_less}
 use Rattle.arcs.specs.Arcs.{Arc, arcs, arc_at}
 use Rattle.arcs.proofs.ArcLists.{ArcOf, arc_of, arc_up, arc_back, arcs_left, arcs_start, arcs_turn, arcs_end_fact, up_among, back_among}
 use Rattle.arcs.specs.Inner.{link_set}
 use Rattle.arcs.proofs.Slices.{slice, slice_sum}
-use Rattle.arcs.proofs.ArcWalk.{sum_by_ends}
 use Rattle.arcs.proofs.LinkBits.{set_parts}
 use Rattle.tree.specs.Decoding.{parent_read, candidate_to}
 use Rattle.tree.specs.Inner.{set_from, added, Readable}
@@ -82,10 +81,6 @@ link_none x p k D u v l o h z =
     let b : set_from x (k + D) D ≡ 0 = omega arith in
     rw (a, b, zero-mul v, zero-mul u) (added_none p u l (omega arith) ∙ ap (added u 0) (added_none p v (omega arith) h))
 
--- the entries with the first arc read
-pub read_small : (q r : List ℕ) → q ≡ r → ((k : ℕ) → get_or r k 0 ≤ 48) → (k : ℕ) → get_or q k 0 ≤ 48
-read_small q r e h = rw e h
-
 -- ---- read_parents
 
 -- what arc a gives at meter v
@@ -104,10 +99,10 @@ module _ (N D : ℕ) (x : List ℕ) (a : Arc) where
   gives_none v n = rw (same_no a.child v n, zero-mul, zero-mul) refl
 
 -- the arcs `left` are still to be read into the parents p
-pub record ReadTo (N D : ℕ) (us vs ws x : List ℕ) (left : List Arc) (p : List ℕ) : Type 0 where
+pub record ReadTo (N D : ℕ) (ls : List Link) (x : List ℕ) (left : List Arc) (p : List ℕ) : Type 0 where
   pub size : length p ≡ N
-  pub among : (f : Arc → ℕ) → sum_of left f ≤ sum_of (arcs (links_of us vs ws)) f
-  pub whole : (v : ℕ) → 1 ≤ v → v ≤ N → nth p v + sum_of left (gives N D x v) ≡ sum_of (arcs (links_of us vs ws)) (gives N D x v)
+  pub among : (f : Arc → ℕ) → sum_of left f ≤ sum_of (arcs ls) f
+  pub whole : (v : ℕ) → 1 ≤ v → v ≤ N → nth p v + sum_of left (gives N D x v) ≡ sum_of (arcs ls) (gives N D x v)
 
 -- sums over a list, member by member
 sums_le : {A : Type 0} (ks : List A) (f g : A → ℕ) → ((a : A) → Memᴰ a ks → f a ≤ g a) → sum_of ks f ≤ sum_of ks g
@@ -115,22 +110,15 @@ unfolding sum_of
 sums_le [] f g h = omega arith
 sums_le (a ∷ ks) f g h = add-le-add (h a (Memᴰ.head refl)) (sums_le ks f g (λ b m. h b (Memᴰ.tail m)))
 
-module _ (N D : ℕ) (us vs x : List ℕ) (r : Readable N D us vs x) where
-  -- the weights that there are
-  abbrev ws : List ℕ
-  ws = r.ends.weights
-
-  survey : Survey N (links_of us vs ws)
-  survey = r.ends.arrays.survey
-
+module _ (N D : ℕ) (ls : List Link) (x : List ℕ) (survey : IsSurvey N ls) (deep : D ≤ 24) (r : Readable N D ls x) where
   -- no more than one parent is read at a meter
-  read_few : (v : ℕ) → 1 ≤ v → v ≤ N → sum_of (arcs (links_of us vs ws)) (gives N D x v) ≤ 48
+  read_few : (v : ℕ) → 1 ≤ v → v ≤ N → sum_of (arcs ls) (gives N D x v) ≤ 48
   unfolding gives
   read_few v l h =
       omega (
         arith,
-        sums_le (arcs (links_of us vs ws)) (gives N D x v) (λ a. 48 * (same a.child v * sum_to D (arc_at N D x a))) (λ a m. le (same a.child v * sum_to D (arc_at N D x a)) a.parent (omega (arith, (arc_of N (links_of us vs ws) (survey) a m).parent_high, survey.meters_high))),
-        sum_of_times (arcs (links_of us vs ws)) 48 (λ a. same a.child v * sum_to D (arc_at N D x a)),
+        sums_le (arcs ls) (gives N D x v) (λ a. 48 * (same a.child v * sum_to D (arc_at N D x a))) (λ a m. le (same a.child v * sum_to D (arc_at N D x a)) a.parent (omega (arith, (arc_of N ls survey a m).parent_high, survey.meters_high))),
+        sum_of_times (arcs ls) 48 (λ a. same a.child v * sum_to D (arc_at N D x a)),
         r.once v l h,
       )
     where
@@ -138,11 +126,11 @@ module _ (N D : ℕ) (us vs x : List ℕ) (r : Readable N D us vs x) where
       le m u b = omega (arith, mul-le-mul_left m b)
 
   -- at first nothing is read
-  pub read_start : (p : List ℕ) → length p ≡ N → ((k : ℕ) → get_or p k 0 ≡ 0) → ReadTo N D us vs r.ends.weights x (arcs_left us vs r.ends.weights 0) p
-  read_start p s z = record { size = s; among = λ f. rw (arcs_start us vs ws) (omega arith); whole = λ v l h. rw (nth_index p v l, z (v - 1), arcs_start us vs ws) (omega arith) }
+  pub read_start : (p : List ℕ) → length p ≡ N → ((k : ℕ) → get_or p k 0 ≡ 0) → ReadTo N D ls x (arcs_left ls 0) p
+  read_start p s z = record { size = s; among = λ f. rw (arcs_start ls) (omega arith); whole = λ v l h. rw (nth_index p v l, z (v - 1), arcs_start ls) (omega arith) }
 
   -- no entry is above 48
-  pub entries_small : (left : List Arc) (p : List ℕ) → ReadTo N D us vs r.ends.weights x left p → (k : ℕ) → get_or p k 0 ≤ 48
+  pub entries_small : (left : List Arc) (p : List ℕ) → ReadTo N D ls x left p → (k : ℕ) → get_or p k 0 ≤ 48
   entries_small left p i k =
       elim (dec_lt k N) [
         | yes h ↦ omega (arith, nth_suc p k, i.whole (suc k) (omega arith) h, read_few (suc k) (omega arith) h)
@@ -150,18 +138,18 @@ module _ (N D : ℕ) (us vs x : List ℕ) (r : Readable N D us vs x) where
       ]
 
   -- an arc whose bits start at index k
-  module _ (a : Arc) (left : List Arc) (p : List ℕ) (i : ReadTo N D us vs ws x (a ∷ left) p) (o : ArcOf N a) (k : ℕ) (at : k ≡ N * suc D + a.number * D) where
+  module _ (a : Arc) (left : List Arc) (p : List ℕ) (i : ReadTo N D ls x (a ∷ left) p) (o : ArcOf N a) (k : ℕ) (at : k ≡ N * suc D + a.number * D) where
     -- the bits from k on are those of arc a
     own_set : set_from x k D ≡ sum_to D (arc_at N D x a)
     unfolding set_from arc_at
     own_set = rw at refl
 
     -- what read_arc asks of the bits
-    arc_asks : a.number < 2 * length us → Bits x × (D ≤ 24) × (k + D ≤ length x) × (set_from x k D ≤ 1)
+    arc_asks : a.number < 2 * length ls → Bits x × (D ≤ 24) × (k + D ≤ length x) × (set_from x k D ≤ 1)
     unfolding sum_of
     arc_asks h = (
       r.bits,
-      r.deep,
+      deep,
       omega (arith, r.room, mul-le-mul_right D h, suc-mul a.number D),
       omega (arith, own_set, once, i.among (λ b. same b.child a.child * sum_to D (arc_at N D x b)), r.once a.child o.child_low o.child_high),
     )
@@ -170,7 +158,7 @@ module _ (N D : ℕ) (us vs x : List ℕ) (r : Readable N D us vs x) where
         once = rw (same_yes a.child a.child refl, one-mul) refl
 
     -- reading it leaves the other arcs
-    arc_turn : (q : List ℕ) → q ≡ added a.child (set_from x k D * a.parent) p → ReadTo N D us vs ws x left q
+    arc_turn : (q : List ℕ) → q ≡ added a.child (set_from x k D * a.parent) p → ReadTo N D ls x left q
     unfolding sum_of
     arc_turn q e = record { size = added_size p q a.child _ o.child_low fits e ∙ i.size; among = λ f. omega (arith, i.among f); whole = whole }
       where
@@ -180,7 +168,7 @@ module _ (N D : ℕ) (us vs x : List ℕ) (r : Readable N D us vs x) where
         own : set_from x k D * a.parent ≡ gives N D x a.child a
         own = ap (λ t. t * a.parent) own_set ∙ sym (gives_own N D x a)
 
-        whole : (v : ℕ) → 1 ≤ v → v ≤ N → nth q v + sum_of left (gives N D x v) ≡ sum_of (arcs (links_of us vs ws)) (gives N D x v)
+        whole : (v : ℕ) → 1 ≤ v → v ≤ N → nth q v + sum_of left (gives N D x v) ≡ sum_of (arcs ls) (gives N D x v)
         whole v l h =
             elim (ℕ_discrete a.child v) [
               | yes d ↦ rw (← d) (omega (arith, nth_here p q a.child (set_from x k D * a.parent) o.child_low fits e, own, i.whole a.child o.child_low o.child_high))
@@ -188,34 +176,29 @@ module _ (N D : ℕ) (us vs x : List ℕ) (r : Readable N D us vs x) where
             ]
 
   -- in the end the parents are read
-  read_whole : (k : ℕ) (p : List ℕ) → length us ≤ k → ReadTo N D us vs ws x (arcs_left us vs ws k) p → p ≡ candidate_to D N (links_of us vs ws) x
+  pub read_end : (k : ℕ) (p : List ℕ) → length ls ≤ k → ReadTo N D ls x (arcs_left ls k) p → p ≡ candidate_to D N (ls) x
   unfolding candidate_to parent_read gives sum_of
-  read_whole k p h i = ext_get_or 0 p (candidate_to D N (links_of us vs ws) x) (i.size ∙ sym (each_length N _)) entry
+  read_end k p h i = ext_get_or 0 p (candidate_to D N (ls) x) (i.size ∙ sym (each_length N _)) entry
     where
-      left : (v : ℕ) → sum_of (arcs_left us vs ws k) (gives N D x v) ≡ 0
-      left v = ap (λ (l : List Arc). sum_of l (gives N D x v)) (arcs_end_fact us vs ws k h)
+      left : (v : ℕ) → sum_of (arcs_left ls k) (gives N D x v) ≡ 0
+      left v = ap (λ (l : List Arc). sum_of l (gives N D x v)) (arcs_end_fact ls k h)
 
-      entry : (j : ℕ) → j < length p → get_or p j 0 ≡ get_or (candidate_to D N (links_of us vs ws) x) j 0
-      entry j b = sym (each_at N (parent_read D (arcs (links_of us vs ws)) (arc_at N D x)) j (omega (arith, i.size)) ∙ sym (i.whole (suc j) (omega arith) (omega (arith, i.size))) ∙ omega (arith, left (suc j), nth_suc p j))
-
-  -- the weights have no part in them
-  pub read_end : (k : ℕ) (p : List ℕ) → length us ≤ k → ReadTo N D us vs r.ends.weights x (arcs_left us vs r.ends.weights k) p → (xs : List ℕ) → p ≡ candidate_to D N (links_of us vs xs) x
-  unfolding candidate_to parent_read arc_at
-  read_end k p h i xs = read_whole k p h i ∙ ap (each N) (fun_ext (λ v. sum_by_ends (λ n u c. same c v * sum_to D (λ t. get_or x (N * suc D + n * D + pred t) 0) * u) us vs ws xs))
+      entry : (j : ℕ) → j < length p → get_or p j 0 ≡ get_or (candidate_to D N (ls) x) j 0
+      entry j b = sym (each_at N (parent_read D (arcs ls) (arc_at N D x)) j (omega (arith, i.size)) ∙ sym (i.whole (suc j) (omega arith) (omega (arith, i.size))) ∙ omega (arith, left (suc j), nth_suc p j))
 
   -- the two arcs of link k: u to v, then v to u
-  module _ (k : ℕ) (h : k < length us) where
-    up_of : ArcOf N (arc_up us vs ws k)
-    up_of = arc_of N (links_of us vs ws) (survey) (arc_up us vs ws k) (up_among us vs ws k (2 * k) h refl)
+  module _ (k : ℕ) (h : k < length ls) where
+    up_of : ArcOf N (arc_up ls k)
+    up_of = arc_of N ls survey (arc_up ls k) (up_among ls k (2 * k) h refl)
 
-    back_of : ArcOf N (arc_back us vs ws k)
-    back_of = arc_of N (links_of us vs ws) (survey) (arc_back us vs ws k) (back_among us vs ws k (2 * k + 1) h refl)
+    back_of : ArcOf N (arc_back ls k)
+    back_of = arc_of N ls survey (arc_back ls k) (back_among ls k (2 * k + 1) h refl)
 
     -- where their bits start
-    first_at_fact : N * suc D + 2 * k * D ≡ N * suc D + (arc_up us vs ws k).number * D
+    first_at_fact : N * suc D + 2 * k * D ≡ N * suc D + (arc_up ls k).number * D
     first_at_fact = refl
 
-    second_at : N * suc D + 2 * k * D + D ≡ N * suc D + (arc_back us vs ws k).number * D
+    second_at : N * suc D + 2 * k * D + D ≡ N * suc D + (arc_back ls k).number * D
     second_at = omega (arith, add-mul (2 * k) 1 D)
 
     -- how many of them are set
@@ -223,30 +206,30 @@ module _ (N D : ℕ) (us vs x : List ℕ) (r : Readable N D us vs x) where
     unfolding set_from
     link_count n e = e ∙ set_parts N D x k ∙ rw second_at refl
 
-    module _ (p : List ℕ) (i : ReadTo N D us vs ws x (arcs_left us vs ws k) p) where
-      both_left : ReadTo N D us vs ws x (arc_up us vs ws k ∷ arc_back us vs ws k ∷ arcs_left us vs ws (k + 1)) p
-      both_left = rw (arcs_turn us vs ws k h) at i
+    module _ (p : List ℕ) (i : ReadTo N D ls x (arcs_left ls k) p) where
+      both_left : ReadTo N D ls x (arc_up ls k ∷ arc_back ls k ∷ arcs_left ls (k + 1)) p
+      both_left = rw (arcs_turn ls k h) at i
 
       -- the first read, the second is left
       first_read : List ℕ
-      first_read = added (get_or vs k 0) (set_from x (N * suc D + 2 * k * D) D * get_or us k 0) p
+      first_read = added ((link_in ls k).v) (set_from x (N * suc D + 2 * k * D) D * (link_in ls k).u) p
 
-      second_left : ReadTo N D us vs ws x (arc_back us vs ws k ∷ arcs_left us vs ws (k + 1)) first_read
+      second_left : ReadTo N D ls x (arc_back ls k ∷ arcs_left ls (k + 1)) first_read
       unfolding first_read
-      second_left = arc_turn (arc_up us vs ws k) _ p both_left up_of (N * suc D + 2 * k * D) first_at_fact first_read refl
+      second_left = arc_turn (arc_up ls k) _ p both_left up_of (N * suc D + 2 * k * D) first_at_fact first_read refl
 
       -- what read_link asks of the bits and of the plan
       pub link_asks : Bits x × (D ≤ 24) × (N * suc D + 2 * k * D + D + D ≤ length x) × (set_from x (N * suc D + 2 * k * D) D ≤ 1) × (set_from x (N * suc D + 2 * k * D + D) D ≤ 1)
       link_asks =
-          let a = arc_asks (arc_up us vs ws k) _ p both_left up_of (N * suc D + 2 * k * D) first_at_fact (omega arith) in
-          let b = arc_asks (arc_back us vs ws k) _ first_read second_left back_of (N * suc D + 2 * k * D + D) second_at (omega arith) in
-          (r.bits, r.deep, b.2, a.3, b.3)
+          let a = arc_asks (arc_up ls k) _ p both_left up_of (N * suc D + 2 * k * D) first_at_fact (omega arith) in
+          let b = arc_asks (arc_back ls k) _ first_read second_left back_of (N * suc D + 2 * k * D + D) second_at (omega arith) in
+          (r.bits, deep, b.2, a.3, b.3)
 
-      pub link_small : (j : ℕ) → get_or (added (get_or vs k 0) (set_from x (N * suc D + 2 * k * D) D * get_or us k 0) p) j 0 ≤ 48
+      pub link_small : (j : ℕ) → get_or (added ((link_in ls k).v) (set_from x (N * suc D + 2 * k * D) D * (link_in ls k).u) p) j 0 ≤ 48
       unfolding first_read
       link_small = entries_small _ first_read second_left
 
       -- reading both leaves those of the links behind k
-      pub link_turn : (q : List ℕ) → q ≡ added (get_or us k 0) (set_from x (N * suc D + 2 * k * D + D) D * get_or vs k 0) (added (get_or vs k 0) (set_from x (N * suc D + 2 * k * D) D * get_or us k 0) p) → ReadTo N D us vs r.ends.weights x (arcs_left us vs r.ends.weights (k + 1)) q
+      pub link_turn : (q : List ℕ) → q ≡ added ((link_in ls k).u) (set_from x (N * suc D + 2 * k * D + D) D * (link_in ls k).v) (added ((link_in ls k).v) (set_from x (N * suc D + 2 * k * D) D * (link_in ls k).u) p) → ReadTo N D ls x (arcs_left ls (k + 1)) q
       unfolding first_read
-      link_turn = arc_turn (arc_back us vs ws k) _ first_read second_left back_of (N * suc D + 2 * k * D + D) second_at
+      link_turn = arc_turn (arc_back ls k) _ first_read second_left back_of (N * suc D + 2 * k * D + D) second_at

@@ -5,10 +5,8 @@ use mathlib.Core.List.{List, [], ◌∷◌, ◌++◌}
 use lib.ListN.{length, get_or}
 use lib.IntN.{ℤ, pos, nat_abs}
 use native.Mathlib.Omega.{arith}
-use Rattle.links.specs.Links.{Link, links_of}
-use Rattle.links.specs.Survey.{Survey}
-use Rattle.links.proofs.Walk.{arrays_few}
-use Rattle.links.proofs.Arrays.{length_links_of}
+use Rattle.links.specs.declared.Link.{Link}
+use Rattle.links.specs.Survey.{IsSurvey}
 use Rattle.qubo.specs.Formula.{Formula}
 use Rattle.qubo.specs.Norm.{formula_norm}
 use Rattle.qubo.specs.Table.{row_of}
@@ -18,13 +16,13 @@ use Rattle.qubo.proofs.RowAction.{add_append, add_length, added_abs, row_none, r
 use Rattle.arcs.specs.Arcs.{Arc, arcs, arcs_end}
 use Rattle.arcs.specs.Formula.{root_term, depth_terms, entry_terms, end_terms, weight_terms}
 use Rattle.arcs.specs.Inner as below
-use Rattle.arcs.proofs.Slices.{bits_few}
+use Rattle.neighbours.proofs.CountBits.{bits_few}
 use Rattle.arcs.proofs.DepthRows.{row_depths}
 use Rattle.arcs.proofs.Bound.{root_norm, depths_norm, ends_norm}
 use Rattle.neighbours.specs.Formula.{count_terms, degree_terms}
 use Rattle.tree.specs.Formula.{formula_to}
 use Rattle.neighbours.specs.Inner.{TableRow}
-use Rattle.tree.specs.Inner.{depth_part, count_part, arc_part, WithNeighbourLimit}
+use Rattle.tree.specs.Inner.{depth_part, count_part, arc_part}
 use Rattle.neighbours.proofs.CountValue.{counts_norm}
 use Rattle.tree.proofs.Bound.{norm_to}
 
@@ -56,14 +54,6 @@ module _ (f : Formula) (few : formula_norm f ≤ 2 ^ 57) (i : ℕ) (r s : List �
 -- ---- the three parts
 
 module _ (N D A M i : ℕ) (r : List ℤ) (t : below.Row (2 ^ 58) N D A M i r) where
-  -- what the first family asks
-  pub first_row : below.Row (2 ^ 59) N D A M i r
-  first_row = record { own = t.own; inside = t.inside; short = t.short; small = λ k. omega (arith, t.small k); penalty = t.penalty }
-
-  -- the same without arcs
-  pub root_asks : below.Row (2 ^ 59) N D A 0 i r
-  root_asks = row_depths (2 ^ 59) N D A M i r first_row
-
   module _ (n : N ≤ 48) (e : D ≤ 24) (s : List ℤ) (root : s ≡ add_terms (root_term A N D ∷ []) i r) where
     pub depths_ask : below.Row (2 ^ 59) N D A 0 i s
     depths_ask = row_depths (2 ^ 59) N D A M i s (next_row (root_term A N D ∷ []) (omega (arith, root_norm A N D n, t.penalty)) i r s root N D A M t)
@@ -82,7 +72,7 @@ module _ (N D A M i : ℕ) (r : List ℤ) (t : below.Row (2 ^ 58) N D A M i r) w
       depth_part_fact ks v entries = entries ∙ ap (add_terms (entry_terms A N D ks) i) both ∙ sym (add_append ((root_term A N D ∷ []) ++ depth_terms A N D) (entry_terms A N D ks) i r)
 
   module _ (ls : List Link) (s : List ℤ) (ends : s ≡ add_terms (end_terms A N D (arcs ls)) i r) where
-    pub weights_ask : Survey N ls → D ≤ 24 → below.Row (2 ^ 59) N D A M i s
+    pub weights_ask : IsSurvey N ls → D ≤ 24 → below.Row (2 ^ 59) N D A M i s
     weights_ask y e = next_row (end_terms A N D (arcs ls)) (omega (arith, ends_norm A N D ls y e, t.penalty)) i r s ends N D A M t
 
     pub arc_part_fact : (v : List ℤ) → v ≡ add_terms (weight_terms N D (arcs ls)) i s → v ≡ add_terms (arc_part A N D (arcs ls)) i r
@@ -90,9 +80,6 @@ module _ (N D A M i : ℕ) (r : List ℤ) (t : below.Row (2 ^ 58) N D A M i r) w
     arc_part_fact v weights = weights ∙ ap (add_terms (weight_terms N D (arcs ls)) i) ends ∙ sym (add_append (end_terms A N D (arcs ls)) (weight_terms N D (arcs ls)) i r)
 
 module _ (N D M d A i : ℕ) (r : List ℤ) (t : TableRow (2 ^ 58) N D M d A i r) where
-  pub counts_ask : TableRow (2 ^ 59) N D M d A i r
-  counts_ask = record { own = t.own; whole = t.whole; small = λ k. omega (arith, t.small k); penalty = t.penalty }
-
   module _ (n : N ≤ 48) (e : d ≤ 47) (s : List ℤ) (counts : s ≡ add_terms (count_terms A N D M d) i r) where
     pub degrees_ask : TableRow (2 ^ 59) N D M d A i s
     degrees_ask = next_counts (count_terms A N D M d) (omega (arith, counts_norm A N D M d n e, t.penalty)) i r s counts N D M d A t
@@ -107,15 +94,12 @@ module _ (N D M d A i : ℕ) (r : List ℤ) (t : TableRow (2 ^ 58) N D M d A i r
 row_two : (T : ℕ) (f g h : Formula) (i : ℕ) (r s : List ℤ) → r ≡ row_of f T i → s ≡ add_terms (g ++ h) i r → s ≡ row_of (f ++ g ++ h) T i
 row_two T f g h i r s e a = row_next T (f ++ g) h i (add_terms g i r) s (row_next T f g i r (add_terms g i r) e refl) (a ∙ add_append g h i r)
 
-module _ (A N D d i : ℕ) (us vs ws : List ℕ) (lent : WithNeighbourLimit N d us vs ws) (deep : D ≤ 24) (few : A ≤ 20000000) where
+module _ (A N D d i : ℕ) (ls : List Link) (survey : IsSurvey N ls) (high : d ≤ 47) (deep : D ≤ 24) (few : A ≤ 20000000) where
   abbrev M : ℕ
-  M = length us
+  M = length ls
 
   abbrev T : ℕ
   T = arcs_end N D M + N * d
-
-  abbrev ls : List Link
-  ls = links_of us vs ws
 
   -- the formula up to a part
   abbrev depths_in : Formula
@@ -126,13 +110,13 @@ module _ (A N D d i : ℕ) (us vs ws : List ℕ) (lent : WithNeighbourLimit N d 
 
   formula_is : formula_to D A N d ls ≡ counts_in ++ end_terms A N D (arcs ls) ++ weight_terms N D (arcs ls)
   unfolding formula_to depth_part
-  formula_is = rw (length_links_of us vs ws) refl
+  formula_is = refl
 
   norm_is : formula_norm counts_in + formula_norm (end_terms A N D (arcs ls)) + formula_norm (weight_terms N D (arcs ls)) < 2 ^ 54
   norm_is =
       omega (
         arith,
-        norm_to D A N d ls lent.arrays.survey deep lent.high few,
+        norm_to D A N d ls survey deep high few,
         ap formula_norm formula_is,
         norm_append (counts_in ++ end_terms A N D (arcs ls)) (weight_terms N D (arcs ls)),
         norm_append counts_in (end_terms A N D (arcs ls)),
@@ -144,16 +128,10 @@ module _ (A N D d i : ℕ) (us vs ws : List ℕ) (lent : WithNeighbourLimit N d 
     filled f r e h =
         let top = row_top T f i r (omega arith) e in
         let s = row_room (2 ^ 58) T f [] i r e (omega arith) in
-        let b = bits_few N D M d lent.arrays.survey.meters_high deep (arrays_few N us vs ws lent.arrays) lent.high in (
+        let b = bits_few N D M d survey.meters_high deep survey.few high in (
           record { own = omega arith; inside = omega arith; short = omega (arith, b); small = λ k. omega (arith, s.room k); penalty = few },
           record { own = omega arith; whole = top; small = λ k. omega (arith, s.room k); penalty = few },
         )
-
-    -- what place_of is asked
-    pub place_asks : below.WithDepths N D us vs ws × (i ≤ 2 ^ 32)
-    place_asks =
-        let b = bits_few N D M d lent.arrays.survey.meters_high deep (arrays_few N us vs ws lent.arrays) lent.high in
-        (record { arrays = lent.arrays; deep = deep }, omega arith)
 
     module _ (r : List ℤ) (none : r ≡ zeros L) where
       pub depths_ready : below.Row (2 ^ 58) N D A M i r

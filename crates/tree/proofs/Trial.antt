@@ -13,7 +13,8 @@ use borrow.Author.Tests.{eq-eqb, ne_eqb, leb-true}
 use Rattle.lists.specs.Tests.{all}
 use Rattle.lists.specs.Sums.{nth}
 use Rattle.lists.proofs.Tests.{and_left, all_head, all_tail, all_member}
-use Rattle.links.specs.Links.{Link, link_ok}
+use Rattle.links.specs.Links.{link_ok}
+use Rattle.links.specs.declared.Link.{Link}
 use Rattle.links.specs.Survey.{LinkOf}
 use Rattle.links.proofs.Altered.{link_of}
 use Rattle.spanning.specs.Spanning.{Joins, along, back, Linked, here, there}

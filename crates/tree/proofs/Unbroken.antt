@@ -9,8 +9,8 @@ use native.Mathlib.Nat.{zero-mul, mul_comm, one-le-mul}
 use Rattle.lists.specs.Sums.{sum_to, sum_of, same}
 use Rattle.lists.proofs.Sums.{same_yes, same_no, same_le, same_one, gap_squared_zero, sum_to_eq, sum_to_none, sum_to_times, sum_to_same, sum_to_term, sum_to_zero_at, sum_to_hot, same_iff, same_none, times_factors, same_both, sum_to_at, sum_to_some}
 use Rattle.lists.proofs.Members.{sum_of_eq, sum_of_none, sum_of_term, sum_of_zero, sum_of_some, sum_of_hot, sum_of_swap}
-use Rattle.links.specs.Links.{Link}
-use Rattle.links.specs.Survey.{Survey}
+use Rattle.links.specs.declared.Link.{Link}
+use Rattle.links.specs.Survey.{IsSurvey}
 use Rattle.onehot.specs.Choices.{set_at, misses}
 use Rattle.onehot.proofs.Codes.{miss_one, misses_hot}
 use Rattle.arcs.specs.Arcs.{Arc, arcs}
@@ -50,7 +50,7 @@ unbroken N D d ks b z = record {
 unfoldable pub depth_read : ℕ → TreeBits → ℕ → ℕ
 depth_read D b v = sum_to D (λ i. i * b.dep v i)
 
-module _ (N D d : ℕ) (ls : List Link) (s : Survey N ls) (b : TreeBits) (c : Unbroken N D d (arcs ls) b) where
+module _ (N D d : ℕ) (ls : List Link) (s : IsSurvey N ls) (b : TreeBits) (c : Unbroken N D d (arcs ls) b) where
   -- just one depth bit of a meter is set
   one_depth : (v : ℕ) → 1 ≤ v → v ≤ N → (h : ℕ) × (h ≤ D) × ((i : ℕ) → i ≤ D → b.dep v i ≡ same h i)
   one_depth v p q =

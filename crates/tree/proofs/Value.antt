@@ -6,8 +6,8 @@ use native.Mathlib.Omega.{arith}
 use native.Mathlib.Nat.{mul-add, mul-one}
 use lib.ListN.{length}
 use lib.IntN.{ℤ, pos, ◌+ℤ◌}
-use Rattle.links.specs.Links.{Link}
-use Rattle.links.specs.Survey.{Survey}
+use Rattle.links.specs.declared.Link.{Link}
+use Rattle.links.specs.Survey.{IsSurvey}
 use Rattle.qubo.specs.Formula.{Formula, Bits, value}
 use Rattle.qubo.specs.Table.{constant_of}
 use Rattle.qubo.proofs.Families.{constant_append}
@@ -58,7 +58,7 @@ module _ (A N d : ℕ) (ls : List Link) where
   ks = arcs ls
 
   -- the value
-  pub formula_value : Survey N ls → (x : List ℕ) → Bits x → value (formula A N d ls) x ≡ pos (worth A N d ls x)
+  pub formula_value : IsSurvey N ls → (x : List ℕ) → Bits x → value (formula A N d ls) x ≡ pos (worth A N d ls x)
   unfolding formula_to worth broken bits_of
   formula_value s x b =
       seven (λ f. value f x) (λ f g. value_append f g x) (root_term A N D ∷ []) (depth_terms A N D) (entry_terms A N D ks) (count_terms A N D M d) (degree_terms A N D M d ks) (end_terms A N D ks) (weight_terms N D ks) _ _ _ _ _ _ _

@@ -9,10 +9,9 @@ use borrow.Author.Tests.{eq-eqb, ne_eqb}
 use Rattle.lists.specs.Sums.{sum_to, sum_of, same, differ, nth}
 use Rattle.lists.proofs.Sums.{same_yes, same_no, same_sym, differ_yes, differ_no, sum_to_eq, sum_to_none, sum_to_times, sum_to_same, sum_of_add, same_iff, on_same, same_turn}
 use Rattle.lists.proofs.Members.{sum_of_eq, sum_of_mul, sum_of_keys, sum_of_swap}
-use Rattle.links.specs.Links.{Link}
-use Rattle.links.specs.Survey.{Survey}
-use Rattle.spanning.specs.declared.Depth.{Depth}
-use Rattle.spanning.specs.declared.Depth.TheVariants.{At, Ring}
+use Rattle.links.specs.declared.Link.{Link}
+use Rattle.links.specs.Survey.{IsSurvey}
+use Rattle.std.specs.Prelude.{Option, Some, None}
 use Rattle.spanning.specs.Parents.{depth_of, neighbours}
 use Rattle.spanning.proofs.Shape.{Shape, linked_flip}
 use Rattle.spanning.proofs.Depths.{depth_root, at_other}
@@ -26,13 +25,13 @@ use Rattle.tree.proofs.Arcs.{arcs_leading, arcs_once, linked_between}
 -- ---- one depth
 
 -- a depth h has its bit at h
-pub depth_bit_fact : (o : Depth) (h i : ℕ) → o ≡ At h → same (bit_of_depth o) (suc i) ≡ same h i
+pub depth_bit_fact : (o : Option ℕ) (h i : ℕ) → o ≡ Some h → same (bit_of_depth o) (suc i) ≡ same h i
 depth_bit_fact o h i e = rw e (same_iff (suc h) (suc i) h i (λ q. omega arith) (λ q. omega arith))
 
 -- the same bit from depth 1 on
-arc_depth_fact : (o : Depth) (i : ℕ) → 1 ≤ i → same (arc_depth o) i ≡ same (bit_of_depth o) (suc i)
-arc_depth_fact (At h) i l = sym (depth_bit_fact (At h) h i refl)
-arc_depth_fact Ring i l = same_no 0 i (λ e. omega arith) ∙ sym (same_no 0 (suc i) (λ e. omega arith))
+arc_depth_fact : (o : Option ℕ) (i : ℕ) → 1 ≤ i → same (arc_depth o) i ≡ same (bit_of_depth o) (suc i)
+arc_depth_fact (Some h) i l = sym (depth_bit_fact (Some h) h i refl)
+arc_depth_fact None i l = same_no 0 i (λ e. omega arith) ∙ sym (same_no 0 (suc i) (λ e. omega arith))
 
 -- an arc's bit: it leads from its child's parent, and this is the child's depth
 pub choice_bit : (N : ℕ) (p : List ℕ) (a : Arc) (i : ℕ) → 1 ≤ i → same (arc_choice N p a) i ≡ same (nth p a.child) a.parent * same (bit_of_depth (depth_of p N a.child)) (suc i)
@@ -43,7 +42,7 @@ choice_bit N p a i l =
       | no e ↦ rw (ne_eqb (nth p a.child) a.parent e, same_no (nth p a.child) a.parent e) (same_no 0 i (λ q. omega arith) ∙ sym (zero-mul _))
     ]
 
-module _ (N D : ℕ) (ls : List Link) (p : List ℕ) (s : Survey N ls) (t : Shape N D ls p) where
+module _ (N D : ℕ) (ls : List Link) (p : List ℕ) (s : IsSurvey N ls) (t : Shape N D ls p) where
   -- whether meter v is at depth i
   abbrev depth_is : ℕ → ℕ → ℕ
   depth_is v i = same (bit_of_depth (depth_of p N v)) (suc i)

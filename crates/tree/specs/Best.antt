@@ -1,6 +1,6 @@
 -- The word of demand 3 that only trees have; the others are over any instance, qubo/specs/Instance. Assumes nothing.
 use Rattle.std.specs.Prelude.{ℕ, ◌≡◌, true, List}
-use Rattle.links.specs.Links.{Link}
+use Rattle.links.specs.declared.Link.{Link}
 use Rattle.spanning.specs.Parents.{tree_links}
 use Rattle.spanning.specs.Spanning.{BestTree}
 use Rattle.tree.specs.Plans.{is_plan, code_of}

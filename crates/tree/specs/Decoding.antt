@@ -1,7 +1,7 @@
 -- Kind 3, tree: the parents that an assignment would code. Assumes nothing.
 use Rattle.std.specs.Prelude.{ℕ, ◌*◌, List}
 use Rattle.lists.specs.Sums.{sum_to, sum_of, same}
-use Rattle.links.specs.Links.{Link}
+use Rattle.links.specs.declared.Link.{Link}
 use Rattle.qubo.specs.Terms.{each}
 use Rattle.spanning.specs.Parents.{deepest}
 use Rattle.arcs.specs.Arcs.{Arc, arcs, arc_at}

@@ -1,6 +1,7 @@
 -- Kind 3, tree, in document 01's order: limits and bit count, the penalty A, and the energy as a formula over bits. Bits and terms of depths and arcs are in crate `arcs`, those of neighbour counts in `neighbours`. Assumes nothing.
 use Rattle.std.specs.Prelude.{ℕ, ◌+◌, ◌*◌, Bool, ◌&&◌, List, [], ◌∷◌, ◌++◌, leb, length}
-use Rattle.links.specs.Links.{Link, total}
+use Rattle.links.specs.Links.{total}
+use Rattle.links.specs.declared.Link.{Link}
 use Rattle.qubo.specs.Formula.{Formula}
 use Rattle.onehot.specs.Choices.{misses}
 use Rattle.spanning.specs.Parents.{deepest}

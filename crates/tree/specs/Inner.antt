@@ -1,25 +1,14 @@
--- Only contracts between functions cite this: a reader of the public promises may skip it. What the code of trees asks for, the parts in which it fills a row and adds up what A multiplies, and what its loops hand on. Assumes nothing.
-use Rattle.std.specs.Prelude.{ℕ, ◌≤◌, ◌+◌, pred, ◌*◌, List, [], ◌∷◌, ◌++◌, ◌≡◌, cond, length, get_or, set, take, drop}
+-- Only contracts between functions cite this: a reader of the public promises may skip it. The parts in which the code fills a row and adds up what A multiplies, and what its loops hand on. Assumes nothing.
+use Rattle.std.specs.Prelude.{ℕ, ◌≤◌, ◌+◌, pred, ◌*◌, List, [], ◌∷◌, ◌++◌, ◌≡◌, length, get_or, set, take, drop}
 use Rattle.lists.specs.Sums.{sum_to, sum_of, same, nth}
-use Rattle.links.specs.Survey.{Arrays, Ends}
-use Rattle.links.specs.Links.{Link, links_of}
+use Rattle.links.specs.declared.Link.{Link}
 use Rattle.qubo.specs.Formula.{Formula, Bits}
 use Rattle.onehot.specs.Choices.{misses}
-use Rattle.spanning.specs.Parents.{is_used}
 use Rattle.arcs.specs.Arcs.{Arc, arcs, arcs_end, arc_at}
 use Rattle.arcs.specs.Formula.{root_term, depth_terms, entry_terms, end_terms, weight_terms}
 use Rattle.arcs.specs.Sums.{root_miss, depth_misses, entry_gaps, end_misses}
 use Rattle.neighbours.specs.Formula.{count_terms, degree_terms, degree_gaps}
 use Rattle.tree.specs.Formula.{TreeBits}
-
--- ---- an accepted site's links with at least two meters, and a neighbour limit from 1 to 47: the crate above shows it before it calls
-
--- the arrays of an accepted site of at least two meters, and d from 1 to 47
-pub record WithNeighbourLimit (N d : ℕ) (us vs ws : List ℕ) : Type 0 where
-  pub arrays : Arrays N us vs ws
-  pub meters : 2 ≤ N
-  pub low : 1 ≤ d
-  pub high : d ≤ 47
 
 -- ---- the parts in which src/rows.rt fills a row
 
@@ -53,10 +42,6 @@ pub record Counted (p counts : List ℕ) : Type 0 where
   pub size : length counts ≡ 256
   pub each : (m : ℕ) → get_or counts m 0 ≡ sum_to (length p) (λ v. same (nth p v) m)
 
--- the weight of a link where one end is the other's parent, else 0
-unfoldable pub used_weight : List ℕ → Link → ℕ
-used_weight p l = cond (is_used p l) l.weight 0
-
 -- xs with ys in place of its entries from index k on
 unfoldable pub placed : ℕ → List ℕ → List ℕ → List ℕ
 placed k ys xs = take k xs ++ ys ++ drop (k + length ys) xs
@@ -70,9 +55,7 @@ unfoldable pub added : ℕ → ℕ → List ℕ → List ℕ
 added v n p = set p (pred v) (nth p v + n)
 
 -- bits whose arcs can be read as parents: at most one is set into each meter
-pub record Readable (N D : ℕ) (us vs x : List ℕ) : Type 0 where
-  pub ends : Ends N us vs
-  pub deep : D ≤ 24
+pub record Readable (N D : ℕ) (ls : List Link) (x : List ℕ) : Type 0 where
   pub bits : Bits x
-  pub room : arcs_end N D (length us) ≤ length x
-  pub once : (v : ℕ) → 1 ≤ v → v ≤ N → sum_of (arcs (links_of us vs ends.weights)) (λ a. same a.child v * sum_to D (arc_at N D x a)) ≤ 1
+  pub room : arcs_end N D (length ls) ≤ length x
+  pub once : (v : ℕ) → 1 ≤ v → v ≤ N → sum_of (arcs ls) (λ a. same a.child v * sum_to D (arc_at N D x a)) ≤ 1

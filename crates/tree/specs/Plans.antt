@@ -1,13 +1,12 @@
 -- Kind 3, tree: plans, their codes and their weight. Assumes nothing.
-use Rattle.std.specs.Prelude.{ℕ, suc, Bool, ◌&&◌, cond, List, ◌++◌, map, eqb, leb}
+use Rattle.std.specs.Prelude.{ℕ, suc, Bool, ◌&&◌, cond, List, ◌++◌, map, eqb, leb, Option, Some, None}
 use Rattle.lists.specs.Tests.{all, from}
 use Rattle.lists.specs.Sums.{nth}
-use Rattle.links.specs.Links.{Link, total}
+use Rattle.links.specs.Links.{total}
+use Rattle.links.specs.declared.Link.{Link}
 use Rattle.qubo.specs.Terms.{each}
 use Rattle.onehot.specs.Choices.{code}
 use Rattle.spanning.specs.Parents.{deepest, depth_of, is_rooted, neighbours, tree_links}
-use Rattle.spanning.specs.declared.Depth.{Depth}
-use Rattle.spanning.specs.declared.Depth.TheVariants.{At, Ring}
 use Rattle.arcs.specs.Arcs.{Arc, arcs}
 
 -- "nobody has more than d neighbours in the tree"
@@ -25,14 +24,14 @@ tree_weight ls p = total (tree_links p ls)
 -- ---- the code: which of its bits each meter or arc has set, from 1; 0 for none
 
 -- of a depth, where the first bit is that of depth 0
-abbrev pub bit_of_depth : Depth → ℕ
-bit_of_depth (At h) = suc h
-bit_of_depth Ring = 0
+abbrev pub bit_of_depth : Option ℕ → ℕ
+bit_of_depth (Some h) = suc h
+bit_of_depth None = 0
 
 -- of an arc, whose first bit is that of depth 1: the depth of its child
-abbrev pub arc_depth : Depth → ℕ
-arc_depth (At h) = h
-arc_depth Ring = 0
+abbrev pub arc_depth : Option ℕ → ℕ
+arc_depth (Some h) = h
+arc_depth None = 0
 
 -- "each meter's depth"
 unfoldable pub depth_choices : ℕ → List ℕ → List ℕ

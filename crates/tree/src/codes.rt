@@ -1,7 +1,5 @@
 // The code of a plan, and the parents that an assignment's arcs give.
-ghost use Rattle.std.specs.Prelude.{ℕ, ◌+◌, ◌*◌, ◌≤◌, ◌<◌, true, ◌≡◌, List, length, get_or};
-ghost use Rattle.links.specs.Links.{links_of};
-ghost use Rattle.links.specs.Survey.{Ends};
+ghost use Rattle.std.specs.Prelude.{ℕ, ◌+◌, ◌*◌, ◌≤◌, ◌<◌, true, ◌≡◌, length, get_or, take};
 ghost use Rattle.qubo.specs.Formula.{Bits};
 ghost use Rattle.onehot.specs.Choices.{code};
 ghost use Rattle.spanning.specs.Parents as parents;
@@ -10,50 +8,48 @@ ghost use Rattle.arcs.specs.Inner.{Used};
 ghost use Rattle.tree.specs.Formula.{bit_count};
 ghost use Rattle.tree.specs.Plans.{depth_choices, arc_choice, arc_choices, count_choices, is_plan, code_of};
 ghost use Rattle.tree.specs.Decoding.{candidate_to};
-ghost use Rattle.tree.specs.Inner.{Counted, placed, set_from, added, Readable};
+ghost use Rattle.tree.specs.Inner.{placed, set_from, added, Readable};
 
-use arcs::layout;
+use arcs::Arcs;
+use links::{Link, Survey};
+use neighbours::Neighbours;
 
-// Which of its bits the arc from u to v has set, from 1: that of the depth of v where u is its parent, else none. Depths are found once for each meter, so their bits are lent.
+// Which of its bits the arc from u to v has set, from 1: that of the depth of v where u is its parent, else none. Depths are found once for each meter, so their bits are lent. The code of choices takes bytes in which 0 sets no bit, so this is no Option.
 fn arc_choice(plan: &[u8], depths: &[u8], u: u8, v: u8) -> u8
     requires { (1 ≤ v) × (v ≤ length plan.now) × (depths.now ≡ depth_choices (length plan.now) plan.now) }
     ensures { (a : Arc) → a.parent ≡ u → a.child ≡ v → result ≡ arc_choice (length plan.now) plan.now a }
 {
-    if crate::plans::is_parent(plan, u, v) == 0 {
+    if !crate::plans::is_parent(plan, u, v) {
         return 0;
     }
-    let b = depths[(v as usize) - 1];
-    if b == 0 {
-        return 0;
-    }
-    b - 1
+    depths[(v as usize) - 1].saturating_sub(1)
 }
 
-// Which of its bits each arc has set, whatever the weights are: for each link that of u to v, then that of v to u.
-fn fill_arcs(choices: &mut [u8], plan: &[u8], depths: &[u8], us: &[u8], vs: &[u8])
-    requires { (depths.now ≡ depth_choices (length plan.now) plan.now) × Ends (length plan.now) us.now vs.now × (length choices.old ≡ 2 * length us.now) }
-    ensures { (ws : List ℕ) → choices.new ≡ arc_choices (length plan.now) (links_of us.now vs.now ws) plan.now }
+// Which of its bits each arc has set: for each link that of u to v, then that of v to u.
+fn arc_choices(survey: &Survey, plan: &[u8], depths: &[u8]) -> [u8; 512]
+    requires { (length plan.now ≡ survey.now.meters) × (depths.now ≡ depth_choices (length plan.now) plan.now) }
+    ensures { (length result ≡ 512) × (take (2 * length survey.now.links.now) result ≡ arc_choices (length plan.now) survey.now.links.now plan.now) }
 {
-    let mut k: usize = 0;
-    while k < us.len() {
+    let mut choices = [0; 512];
+    for (k, link) in survey.links.iter().enumerate() {
         let at = 2 * k;
-        choices[at] = arc_choice(plan, depths, us[k], vs[k]);
-        choices[at + 1] = arc_choice(plan, depths, vs[k], us[k]);
-        k += 1;
+        choices[at] = arc_choice(plan, depths, link.u, link.v);
+        choices[at + 1] = arc_choice(plan, depths, link.v, link.u);
     }
+    choices
 }
 
 // Which of its count bits each meter has set: its number of neighbours.
-fn fill_counts(choices: &mut [u8], counts: &[u64], plan: &[u8])
-    requires { Counted plan.now counts.now × (length choices.old ≡ length plan.now) }
-    ensures { choices.new ≡ count_choices (length plan.now) plan.now }
+fn neighbour_choices(plan: &[u8]) -> [u8; 256]
+    requires { length plan.now ≤ 48 }
+    ensures { (length result ≡ 256) × (take (length plan.now) result ≡ count_choices (length plan.now) plan.now) }
 {
-    let mut v: usize = 0;
-    while v < plan.len() {
-        let n = crate::plans::neighbours_at(counts, plan, v + 1);
-        choices[v] = n as u8;
-        v += 1;
+    let children = onehot::count_choices(plan);
+    let mut choices = [0; 256];
+    for v in 0..plan.len() {
+        choices[v] = crate::plans::neighbours_at(&children, plan, v + 1) as u8;
     }
+    choices
 }
 
 // Puts the code of choices, n bits for each, in place of the bits from `start` on.
@@ -65,68 +61,31 @@ fn encode_part(choices: &[u8], n: usize, start: usize, bits: &mut [u8])
     onehot::encode(choices, choices.len(), n, &mut bits[start..end]);
 }
 
-// The second part: the arcs, n bits for each, whatever the weights are.
-fn code_arcs(
-    choices: &mut [u8],
-    plan: &[u8],
-    depths: &[u8],
-    us: &[u8],
-    vs: &[u8],
-    n: usize,
-    start: usize,
-    bits: &mut [u8],
-)
-    requires depths_value { (depths.now ≡ depth_choices (length plan.now) plan.now) × Ends (length plan.now) us.now vs.now × (length choices.old ≡ 2 * length us.now) }
-    requires by_index { ((ws : List ℕ) (k : ℕ) → get_or (arc_choices (length plan.now) (links_of us.now vs.now ws) plan.now) k 0 ≤ n) × (start + 2 * length us.now * n ≤ length bits.old) }
-    ensures choices { (ws : List ℕ) → choices.new ≡ arc_choices (length plan.now) (links_of us.now vs.now ws) plan.now }
-    ensures bits { (ws : List ℕ) → bits.new ≡ placed start (code n (arc_choices (length plan.now) (links_of us.now vs.now ws) plan.now)) bits.old }
+// The code of a plan: depths, whose bits are lent, arcs and numbers of neighbours.
+pub fn encode(neighbours: &Neighbours, plan: &[u8], depths: &[u8], bits: &mut [u8])
+    requires deepest { neighbours.now.arcs.deepest ≡ parents.deepest neighbours.now.arcs.survey.meters }
+    requires plan { is_plan neighbours.now.arcs.survey.meters neighbours.now.d neighbours.now.arcs.survey.links.now plan.now ≡ true }
+    requires depths { depths.now ≡ depth_choices neighbours.now.arcs.survey.meters plan.now }
+    requires bits { length bits.old ≡ bit_count neighbours.now.arcs.survey.meters (length neighbours.now.arcs.survey.links.now) neighbours.now.d }
+    ensures { bits.new ≡ code_of neighbours.now.arcs.survey.meters neighbours.now.d neighbours.now.arcs.survey.links.now plan.now }
 {
-    fill_arcs(choices, plan, depths, us, vs);
-    encode_part(choices, n, start, bits);
-}
-
-// The third part: the numbers of neighbours, d bits for each meter.
-fn code_counts(choices: &mut [u8], plan: &[u8], d: usize, start: usize, bits: &mut [u8])
-    requires { (length plan.now ≤ 48) × (length choices.old ≡ length plan.now) × ((v : ℕ) → v < length plan.now → get_or (count_choices (length plan.now) plan.now) v 0 ≤ d) × (start + length plan.now * d ≤ length bits.old) }
-    ensures choices { choices.new ≡ count_choices (length plan.now) plan.now }
-    ensures bits { bits.new ≡ placed start (code d (count_choices (length plan.now) plan.now)) bits.old }
-{
-    let mut counts: [u64; 256] = [0; 256];
-    onehot::count_choices(&mut counts[..256], plan);
-    fill_counts(choices, &counts[..256], plan);
-    encode_part(choices, d, start, bits);
-}
-
-// The code of a plan, whatever the weights are: depths, whose bits are lent, arcs and numbers of neighbours.
-pub fn encode(
-    plan: &[u8],
-    depths: &[u8],
-    us: &[u8],
-    vs: &[u8],
-    meters: usize,
-    deepest: usize,
-    d: usize,
-    bits: &mut [u8],
-)
-    requires { Ends meters us.now vs.now × (deepest ≡ parents.deepest meters) × ((ws : List ℕ) × (is_plan meters d (links_of us.now vs.now ws) plan.now ≡ true)) × (depths.now ≡ depth_choices meters plan.now) × (length bits.old ≡ bit_count meters (length us.now) d) }
-    ensures { (ws : List ℕ) → bits.new ≡ code_of meters d (links_of us.now vs.now ws) plan.now }
-{
-    let first = layout::depths_end(meters, deepest);
-    let second = layout::arcs_end(meters, deepest, us.len());
-    let mut arcs: [u8; 512] = [0; 512];
-    let mut counts: [u8; 256] = [0; 256];
-    encode_part(depths, layout::depth_width(deepest), 0, bits);
-    code_arcs(
-        &mut arcs[..2 * us.len()],
-        plan,
-        depths,
-        us,
-        vs,
-        deepest,
-        first,
+    let arcs = &neighbours.arcs;
+    let survey = &arcs.survey;
+    let chosen = arc_choices(survey, plan, depths);
+    let counts = neighbour_choices(plan);
+    encode_part(depths, arcs.depth_width(), 0, bits);
+    encode_part(
+        &chosen[..2 * survey.links.len()],
+        arcs.deepest,
+        arcs.depths_end(),
         bits,
     );
-    code_counts(&mut counts[..meters], plan, d, second, bits);
+    encode_part(
+        &counts[..survey.meters],
+        neighbours.d,
+        arcs.arcs_end(),
+        bits,
+    );
 }
 
 // Adds the parent u of an arc to the entry of its child v, once for each of the arc's bits that is set; they are the D bits from `start` on.
@@ -143,37 +102,33 @@ fn read_arc(bits: &[u8], start: usize, deepest: usize, u: u8, v: u8, plan: &mut 
 }
 
 // Adds the parents that the two arcs of a link give; their bits lie one behind the other from `start` on, and n of them are set. Few links are in a tree: most have none.
-fn read_link(bits: &[u8], start: usize, deepest: usize, u: u8, v: u8, n: u8, plan: &mut [u8])
+fn read_link(bits: &[u8], start: usize, deepest: usize, link: &Link, n: u8, plan: &mut [u8])
     requires bits { Bits bits.now × (deepest ≤ 24) × (start + deepest + deepest ≤ length bits.now) × (set_from bits.now start deepest ≤ 1) × (set_from bits.now (start + deepest) deepest ≤ 1) × (n ≡ set_from bits.now start deepest + set_from bits.now (start + deepest) deepest) }
-    requires le_u { (1 ≤ u) × (u < v) × (v ≤ 48) × (v ≤ length plan.old) × ((k : ℕ) → get_or plan.old k 0 ≤ 48) × ((k : ℕ) → get_or (added v (set_from bits.now start deepest * u) plan.old) k 0 ≤ 48) }
-    ensures { plan.new ≡ added u (set_from bits.now (start + deepest) deepest * v) (added v (set_from bits.now start deepest * u) plan.old) }
+    requires ends { (1 ≤ link.now.u) × (link.now.u < link.now.v) × (link.now.v ≤ 48) × (link.now.v ≤ length plan.old) × ((k : ℕ) → get_or plan.old k 0 ≤ 48) × ((k : ℕ) → get_or (added link.now.v (set_from bits.now start deepest * link.now.u) plan.old) k 0 ≤ 48) }
+    ensures { plan.new ≡ added link.now.u (set_from bits.now (start + deepest) deepest * link.now.v) (added link.now.v (set_from bits.now start deepest * link.now.u) plan.old) }
 {
     if n == 0 {
         return;
     }
     let middle = start + deepest;
-    read_arc(bits, start, deepest, u, v, plan);
-    read_arc(bits, middle, deepest, v, u, plan);
+    read_arc(bits, start, deepest, link.u, link.v, plan);
+    read_arc(bits, middle, deepest, link.v, link.u, plan);
 }
 
-// The parents read off the arcs, whatever the weights are, where no meter has more than one arc set into it. How many bits each link's arcs have set is lent.
-pub fn read_parents(
-    bits: &[u8],
-    used: &[u8],
-    us: &[u8],
-    vs: &[u8],
-    meters: usize,
-    deepest: usize,
-    plan: &mut [u8],
-)
-    requires { Readable meters deepest us.now vs.now bits.now × (length plan.old ≡ meters) × Used meters deepest (length us.now) bits.now used.now }
-    ensures { (ws : List ℕ) → plan.new ≡ candidate_to deepest meters (links_of us.now vs.now ws) bits.now }
+// The parents read off the arcs, where no meter has more than one arc set into it. How many bits each link's arcs have set is lent.
+pub fn read_parents(arcs: &Arcs, bits: &[u8], used: &[u8], plan: &mut [u8])
+    requires { Readable arcs.now.survey.meters arcs.now.deepest arcs.now.survey.links.now bits.now × (length plan.old ≡ arcs.now.survey.meters) × Used arcs.now.survey.meters arcs.now.deepest (length arcs.now.survey.links.now) bits.now used.now }
+    ensures { plan.new ≡ candidate_to arcs.now.deepest arcs.now.survey.meters arcs.now.survey.links.now bits.now }
 {
     onehot::clear_bits(plan);
-    let mut k: usize = 0;
-    while k < us.len() {
-        let start = layout::arc_start(meters, deepest, 2 * k);
-        read_link(bits, start, deepest, us[k], vs[k], used[k], plan);
-        k += 1;
+    for (k, link) in arcs.survey.links.iter().enumerate() {
+        read_link(
+            bits,
+            arcs.arc_start(2 * k),
+            arcs.deepest,
+            link,
+            used[k],
+            plan,
+        );
     }
 }

@@ -1,91 +1,57 @@
 // Rows of the table: zeros, and then the seven families of terms, one after another. What bit i is, is found once; each family then adds what it has at bit i.
-ghost use Rattle.std.specs.Prelude.{ℕ, ◌+◌, ◌*◌, ◌≤◌, ◌^◌, ◌≡◌, List, length};
-ghost use Rattle.links.specs.Links.{links_of};
+ghost use Rattle.std.specs.Prelude.{◌+◌, ◌*◌, ◌≤◌, ◌^◌, ◌≡◌, length};
 ghost use Rattle.qubo.specs.Table.{row_of};
 ghost use Rattle.qubo.specs.Rows.{add_terms};
-ghost use Rattle.arcs.specs.Arcs.{arcs, arcs_end};
-ghost use Rattle.arcs.specs.Inner.{Row, IsPlace, WithPlace};
+ghost use Rattle.arcs.specs.Arcs.{arcs_end};
+ghost use Rattle.arcs.specs.Arcs as of_links;
+ghost use Rattle.arcs.specs.Inner.{Row, IsPlace};
 ghost use Rattle.tree.specs.Formula.{formula_to};
 ghost use Rattle.neighbours.specs.Inner.{TableRow};
-ghost use Rattle.tree.specs.Inner.{WithNeighbourLimit, depth_part, count_part, arc_part};
+ghost use Rattle.tree.specs.Inner.{depth_part, count_part, arc_part};
 
-use arcs::layout;
-use arcs::layout::Place;
+use arcs::{Arcs, Place};
+use neighbours::Neighbours;
 
-// Adds the families of depths, whatever the weights are.
-fn add_depth_part(
-    row: &mut [i64],
-    i: usize,
-    place: Place,
-    us: &[u8],
-    vs: &[u8],
-    meters: usize,
-    deepest: usize,
-    penalty: u64,
-)
-    requires { WithPlace meters deepest us.now vs.now i place × Row (2 ^ 58) meters deepest penalty (length us.now) i row.old }
-    ensures { (ws : List ℕ) → row.new ≡ add_terms (depth_part penalty meters deepest (arcs (links_of us.now vs.now ws))) i row.old }
+// Adds the families of depths.
+fn add_depth_part(arcs: &Arcs, row: &mut [i64], i: usize, place: Place, penalty: u64)
+    requires place { IsPlace arcs.now.survey.meters arcs.now.deepest arcs.now.survey.links.now i place }
+    requires row { Row (2 ^ 58) arcs.now.survey.meters arcs.now.deepest penalty (length arcs.now.survey.links.now) i row.old }
+    ensures { row.new ≡ add_terms (depth_part penalty arcs.now.survey.meters arcs.now.deepest (of_links.arcs arcs.now.survey.links.now)) i row.old }
 {
-    arcs::rows::add_root(row, i, meters, deepest, penalty);
-    arcs::rows::add_depths(row, i, meters, deepest, penalty);
-    arcs::rows::add_entries(row, i, place, us, vs, meters, deepest, penalty);
+    arcs.add_root(row, i, penalty);
+    arcs.add_depths(row, i, penalty);
+    arcs.add_entries(row, i, place, penalty);
 }
 
-// Adds those of neighbour counts, whatever the weights are.
-fn add_count_part(
-    row: &mut [i64],
-    i: usize,
-    place: Place,
-    us: &[u8],
-    vs: &[u8],
-    meters: usize,
-    deepest: usize,
-    d: usize,
-    penalty: u64,
-)
-    requires { WithPlace meters deepest us.now vs.now i place × (1 ≤ d) × (d ≤ 47) × TableRow (2 ^ 58) meters deepest (length us.now) d penalty i row.old }
-    ensures { (ws : List ℕ) → row.new ≡ add_terms (count_part penalty meters deepest (length us.now) d (arcs (links_of us.now vs.now ws))) i row.old }
+// Adds those of neighbour counts.
+fn add_count_part(neighbours: &Neighbours, row: &mut [i64], i: usize, place: Place, penalty: u64)
+    requires low { 1 ≤ neighbours.now.d }
+    requires place { IsPlace neighbours.now.arcs.survey.meters neighbours.now.arcs.deepest neighbours.now.arcs.survey.links.now i place }
+    requires row { TableRow (2 ^ 58) neighbours.now.arcs.survey.meters neighbours.now.arcs.deepest (length neighbours.now.arcs.survey.links.now) neighbours.now.d penalty i row.old }
+    ensures { row.new ≡ add_terms (count_part penalty neighbours.now.arcs.survey.meters neighbours.now.arcs.deepest (length neighbours.now.arcs.survey.links.now) neighbours.now.d (of_links.arcs neighbours.now.arcs.survey.links.now)) i row.old }
 {
-    neighbours::counts::add_counts(row, i, meters, deepest, us.len(), d, penalty);
-    neighbours::degrees::add_degrees(row, i, place, us, vs, meters, deepest, d, penalty);
+    neighbours.add_counts(row, i, penalty);
+    neighbours.add_degrees(row, i, place, penalty);
 }
 
-// Adds those of arcs, whatever the weights are with which this is the place of bit i.
-fn add_arc_part(
-    row: &mut [i64],
-    i: usize,
-    place: Place,
-    us: &[u8],
-    vs: &[u8],
-    meters: usize,
-    deepest: usize,
-    penalty: u64,
-)
-    requires { WithPlace meters deepest us.now vs.now i place × Row (2 ^ 58) meters deepest penalty (length us.now) i row.old }
-    ensures { (ws : List ℕ) → IsPlace meters deepest (links_of us.now vs.now ws) i place → row.new ≡ add_terms (arc_part penalty meters deepest (arcs (links_of us.now vs.now ws))) i row.old }
+// Adds those of arcs.
+fn add_arc_part(arcs: &Arcs, row: &mut [i64], i: usize, place: Place, penalty: u64)
+    requires place { IsPlace arcs.now.survey.meters arcs.now.deepest arcs.now.survey.links.now i place }
+    requires row { Row (2 ^ 58) arcs.now.survey.meters arcs.now.deepest penalty (length arcs.now.survey.links.now) i row.old }
+    ensures { row.new ≡ add_terms (arc_part penalty arcs.now.survey.meters arcs.now.deepest (of_links.arcs arcs.now.survey.links.now)) i row.old }
 {
-    arcs::rows::add_ends(row, i, place, us, vs, meters, deepest, penalty);
+    arcs.add_ends(row, i, place, penalty);
     arcs::rows::add_weights(row, i, place);
 }
 
 // Row i, which fills the slice, for any D.
-pub fn row_into(
-    row: &mut [i64],
-    us: &[u8],
-    vs: &[u8],
-    ws: &[u16],
-    meters: usize,
-    deepest: usize,
-    d: usize,
-    penalty: u64,
-    i: usize,
-)
-    requires { WithNeighbourLimit meters d us.now vs.now ws.now × (deepest ≤ 24) × (penalty ≤ 20000000) × (i + length row.old ≡ arcs_end meters deepest (length us.now) + meters * d) × (1 ≤ length row.old) }
-    ensures { row.new ≡ row_of (formula_to deepest penalty meters d (links_of us.now vs.now ws.now)) (arcs_end meters deepest (length us.now) + meters * d) i }
+pub fn row_into(neighbours: &Neighbours, row: &mut [i64], i: usize, penalty: u64)
+    requires { (1 ≤ neighbours.now.d) × (penalty ≤ 20000000) × (i + length row.old ≡ arcs_end neighbours.now.arcs.survey.meters neighbours.now.arcs.deepest (length neighbours.now.arcs.survey.links.now) + neighbours.now.arcs.survey.meters * neighbours.now.d) × (1 ≤ length row.old) }
+    ensures { row.new ≡ row_of (formula_to neighbours.now.arcs.deepest penalty neighbours.now.arcs.survey.meters neighbours.now.d neighbours.now.arcs.survey.links.now) (arcs_end neighbours.now.arcs.survey.meters neighbours.now.arcs.deepest (length neighbours.now.arcs.survey.links.now) + neighbours.now.arcs.survey.meters * neighbours.now.d) i }
 {
-    let place = layout::place_of(us, vs, ws, meters, deepest, i);
+    let place = neighbours.arcs.place_of(i);
     qubo::clear(row);
-    add_depth_part(row, i, place, us, vs, meters, deepest, penalty);
-    add_count_part(row, i, place, us, vs, meters, deepest, d, penalty);
-    add_arc_part(row, i, place, us, vs, meters, deepest, penalty);
+    add_depth_part(&neighbours.arcs, row, i, place, penalty);
+    add_count_part(neighbours, row, i, place, penalty);
+    add_arc_part(&neighbours.arcs, row, i, place, penalty);
 }

@@ -1,5 +1,5 @@
 // Energies and decoded plans of assignments. The bits behind those of the case are 0.
-use crate::calls::{self, Plan};
+use crate::calls::{self, Decoded};
 use crate::cases::Case;
 use crate::counts::{Counts, Subject};
 use crate::draws::Draws;
@@ -44,7 +44,7 @@ fn mend_agrees(
     n: usize,
     bits: &Code,
     plan: &List,
-    given: Plan,
+    given: Decoded,
     energy: u64,
 ) -> bool {
     let mut expected = [PATTERN; 8];
@@ -54,16 +54,16 @@ fn mend_agrees(
         .site
         .weight_of(Kind::Channels(n), case.plan_in(&expected));
     weight.wrapping_add(repaired) <= energy
-        && given == Plan { weight, repaired }
+        && given == Decoded { weight, repaired }
         && *plan == expected
 }
 
 /// Groups and trees: the plan is one whose code the bits are, with its weight and 0 repaired.
-fn code_agrees(case: &Case<'_>, kind: Kind, bits: &Code, plan: &List, given: Plan) -> bool {
+fn code_agrees(case: &Case<'_>, kind: Kind, bits: &Code, plan: &List, given: Decoded) -> bool {
     let plan = case.plan_in(plan);
     let weight = case.site.weight_of(kind, plan);
     given
-        == Plan {
+        == Decoded {
             weight,
             repaired: 0,
         }
@@ -80,7 +80,7 @@ fn decodable(case: &Case<'_>, energy: u64) -> Result<(), u64> {
 }
 
 /// Whether a plan that was given is that of the bits.
-fn plan_agrees(case: &Case<'_>, bits: &Code, energy: u64, plan: &List, given: Plan) -> bool {
+fn plan_agrees(case: &Case<'_>, bits: &Code, energy: u64, plan: &List, given: Decoded) -> bool {
     match case.kind {
         Some(Kind::Channels(n)) => mend_agrees(case, n, bits, plan, given, energy),
         Some(kind) => code_agrees(case, kind, bits, plan, given),

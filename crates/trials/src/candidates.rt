@@ -1,6 +1,6 @@
 // All lists of numbers as plans, those that are none too.
 use crate::assignments::{self, Least};
-use crate::calls::{self, Plan};
+use crate::calls::{self, Decoded};
 use crate::cases::Case;
 use crate::counts::{Counts, Subject};
 use crate::refusals;
@@ -24,7 +24,7 @@ fn back_agrees(case: &Case<'_>, list: &List, code: &Code, weight: u64) -> bool {
     let mut plan = [0; 8];
     let lent = front_mut(&mut plan, case.lent_plan);
     let given = calls::decode(case.image, case.ask, front(code, case.lent_bits), lent);
-    let expected = Plan {
+    let expected = Decoded {
         weight,
         repaired: 0,
     };

@@ -50,11 +50,7 @@ fn bit_count(meters: usize, links: usize, ask: Ask) -> Result<usize, u64> {
 fn compare_count(twins: &Twins, links: usize, ask: Ask, counts: &mut Counts) {
     let expected = bit_count(twins.matrix.meters(), links, ask);
     let given = calls::bit_count(&twins.image, ask);
-    counts.called(
-        Subject::Tables,
-        expected.map(|_| ()),
-        given == expected.map(|bits| (bits as u64).cast_signed()),
-    );
+    counts.called(Subject::Tables, expected.map(|_| ()), given == expected);
 }
 
 /// Those of kinds 0 to 3 with parameters 0 to 63, each with a drawn margin.

@@ -108,8 +108,13 @@ impl Matrix {
         let mut rest = links.iter();
         for (u, row) in self.weights.iter().enumerate() {
             for (v, weight) in row.iter().enumerate() {
-                let weight = *weight;
-                if weight != 0 && rest.next() != Some(&Link { u, v, weight }) {
+                if *weight == 0 {
+                    continue;
+                }
+                let is_next = |link: &Link| {
+                    (link.u as usize, link.v as usize, link.weight) == (u, v, *weight)
+                };
+                if !rest.next().is_some_and(is_next) {
                     return false;
                 }
             }

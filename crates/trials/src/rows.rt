@@ -132,11 +132,11 @@ pub fn compare_rows(case: &Case<'_>, counts: &mut Counts) {
 
 /// Whether bit count, penalty and constant are as they should be, or refused with the number. The constant is the energy of all zeros.
 fn table_agrees(case: &Case<'_>) -> bool {
-    let expected = |value: u64| case.accepted.map(|()| value.cast_signed());
     let (image, ask) = (case.image, case.ask);
-    calls::bit_count(image, ask) == expected(case.bits as u64)
-        && calls::penalty(image, ask) == expected(case.penalty)
-        && calls::constant(image, ask) == expected(energy_with(case, &[]))
+    let constant = energy_with(case, &[]).cast_signed();
+    calls::bit_count(image, ask) == case.accepted.map(|()| case.bits)
+        && calls::penalty(image, ask) == case.accepted.map(|()| case.penalty)
+        && calls::constant(image, ask) == case.accepted.map(|()| constant)
 }
 
 /// Bit count, penalty and constant.

@@ -1,6 +1,6 @@
-use mathlib.Core.Path.{refl, ◌∙◌}
+use Rattle.plans.specs.Calls.{energy_answer_in}
 use Rattle.meterplan.proofs.meterplan_energy.Goals as goal
 
-pub returns : goal.returns
-returns c =
-    record { lent = (refl, refl); number = (c.number_of.ensures.0 ∙ c.energy.ensures.number.0, c.number_of.ensures.1 ∙ c.energy.ensures.number.1) }
+pub returns-clause-number : goal.returns-clause-number
+unfolding energy_answer_in
+returns-clause-number c = c.number_of.ensures _ _ c.energy.ensures.answer

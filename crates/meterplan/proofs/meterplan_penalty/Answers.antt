@@ -1,6 +1,9 @@
-use mathlib.Core.Path.{refl, ◌∙◌}
+use Rattle.std.proofs.Common.{ℕ, ◌<◌, arith, rules, of_calls}
+use Rattle.std.proofs.lemmas.Result.{IfOk-weaker}
+use Rattle.plans.specs.Calls.{penalty_answer_in}
+use Rattle.meterplan.proofs.Crossing.{counted}
 use Rattle.meterplan.proofs.meterplan_penalty.Goals as goal
 
-pub returns : goal.returns
-returns c =
-    record { lent = refl; number = (c.number_of.ensures.0 ∙ c.penalty.ensures.number.0, c.number_of.ensures.1 ∙ c.penalty.ensures.number.1) }
+pub returns-clause-number : goal.returns-clause-number
+unfolding penalty_answer_in
+returns-clause-number c = c.number_of.ensures _ _ (counted _ (λ x y l p. search (rules, of_calls)) _ _ _ _ (IfOk-weaker _ (λ (x : ℕ). x < 8589934592) (λ (x : ℕ). x < 9223372036854775808) (λ x h. omega arith) c.penalty.ensures.small) c.map.ensures.cases c.penalty.ensures.answer)

@@ -1,9 +1,18 @@
-use mathlib.Core.Path.{ap, sym, ◌∙◌}
-use mir.Facts.{to_z-of_z}
-use Rattle.plans.specs.Answers.{number_refusal, number_value}
+use Rattle.std.proofs.Common.{◌∙◌, rules}
+use Rattle.std.specs.Prelude.{ℤ, pos}
 use mir.Syntax.{w64}
-use borrow.Author.Rules.{sfits_of}
+use mir.Facts.{to_z-of_z}
+use Rattle.meterplan.proofs.Crossing.{given_is, withheld_is}
 use Rattle.meterplan.proofs.number_of.Goals as goal
 
-pub returns-in-Value : goal.returns-in-Value
-returns-in-Value c = (ap number_refusal (sym c.in-Value.is), to_z-of_z (sfits_of {w = w64} c.in-Value.known_told-1-own.given.0.1) ∙ ap number_value (sym c.in-Value.is))
+pub returns-in-Ok : goal.returns-in-Ok
+returns-in-Ok c r z e =
+    let q = rw c.in-Ok.is at e in
+    let g = given_is (λ (x : ℤ). x) (pos 0) r _ z q in
+    (g.0, to_z-of_z {w = w64} (search rules) ∙ g.1)
+
+pub returns-in-Err : goal.returns-in-Err
+returns-in-Err c r z e =
+    let q = rw c.in-Err.is at e in
+    let g = withheld_is (λ (x : ℤ). x) (pos 0) _ r z q in
+    (c.number.ensures ∙ g.0, g.1)

@@ -1,38 +1,17 @@
-use mathlib.Core.Path.{◌≡◌, sym, ◌∙◌}
-use native.Mathlib.Omega.{arith}
-use lib.ListN.{length}
-use Rattle.lists.specs.Sums.{nth}
-use Rattle.lists.proofs.Sums.{lowest_zero, lowest_skip, lowest_found, nth_suc}
+use Rattle.std.proofs.Common.{◌≡◌, ◌+◌, MatchOption, length, rules, tests, arith}
+use Rattle.std.proofs.lemmas.Iterator.{YieldsList-from_slice, IsFirst-from_position}
+use Rattle.lists.specs.Sums.{lowest, nth}
+use Rattle.onehot.proofs.Candidates.{lowest_first}
+use Rattle.onehot.proofs.lowest_set.Goals.{After-position}
 use Rattle.onehot.proofs.lowest_set.Goals as goal
 
-pub loop-i-init : goal.loop-i-init
-loop-i-init c = (omega arith, lowest_zero (nth c.args.part.now))
+found : (c : After-position) → MatchOption c.position.result (lowest (length c.args.part.now) (nth c.args.part.now) ≡ 0) (λ i. i + 1 ≡ lowest (length c.args.part.now) (nth c.args.part.now))
+found c =
+    lowest_first c.args.part.now c.position.result
+    (IsFirst-from_position _ _ c.position.result (λ x. x ≡ 0 → ⊥) (λ x. x ≡ 0) c.position.ensures.ran (YieldsList-from_slice c.args.part.now c.iter.ensures.rest) (λ x q k. search (rules, tests)) (λ x q k. search (rules, tests)))
 
-pub bounds-part-i : goal.bounds-part-i
-bounds-part-i c = omega arith
-
-pub overflow_add-result : goal.overflow_add-result
-overflow_add-result c = omega arith
-
-pub returns-then-part-i-ne0 : goal.returns-then-part-i-ne0
-returns-then-part-i-ne0 c =
-    let part = c.args.part.now in
-    let l = c.loop-i in
-    lowest_found (length part) l.i (nth part) (omega arith) l.invariant.1 (λ e. c.if-part-i-ne0.true (sym (nth_suc part l.i) ∙ e))
-
-pub overflow_add-i : goal.overflow_add-i
-overflow_add-i c = omega arith
-
-pub loop-i-smaller : goal.loop-i-smaller
-loop-i-smaller c = omega arith
-
-pub loop-i-preserved : goal.loop-i-preserved
-loop-i-preserved c =
-    let part = c.args.part.now in
-    let l = c.loop-i in
-    (omega arith, lowest_skip l.i (nth part) l.invariant.1 (nth_suc part l.i ∙ c.if-part-i-ne0.false))
+pub returns-in_err-first : goal.returns-in_err-first
+returns-in_err-first c = rw c.from_residual.ensures (rw c.in_err-first.was at (found (goal.at.returns-in_err-first c).After-position))
 
 pub returns : goal.returns
-returns c =
-    let e : c.loop-i.i ≡ length c.args.part.now = omega arith in
-    sym (rw e at c.loop-i.invariant.1)
+returns c = (omega arith, rw c.in_ok-first.was at (found (goal.at.returns c).After-position))

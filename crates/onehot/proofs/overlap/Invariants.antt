@@ -1,12 +1,7 @@
-use Prim.Native.Nat.{◌≤◌, ◌-◌}
-use mathlib.Core.Path.{◌≡◌}
-use lib.ListN.{length}
+use Rattle.std.proofs.Common.{◌≤◌, ◌≡◌, length}
 use Rattle.lists.specs.Sums.{sum_to}
 use Rattle.onehot.proofs.Turns.{both_set}
 use Rattle.onehot.proofs.overlap.Given as goal
 
-abbrev pub invariant-loop-i : goal.invariant-loop-i
-invariant-loop-i l = (l.i ≤ length l.part) × (l.both ≤ l.i) × (l.both ≡ sum_to l.i (both_set l.part l.other))
-
-abbrev pub decreases-loop-i : goal.decreases-loop-i
-decreases-loop-i l = length l.part - l.i
+abbrev pub invariant-loop-bit : goal.invariant-loop-bit
+invariant-loop-bit l = (l.both ≤ length l.yielded) × (l.both ≡ sum_to (length l.yielded) (both_set l.part l.other))

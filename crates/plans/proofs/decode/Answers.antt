@@ -1,49 +1,33 @@
-use mathlib.Core.Path.{refl, sym, ◌∙◌}
-use lib.Seq.{length-take-le}
-use native.Mathlib.Omega.{arith}
+use Rattle.std.proofs.lemmas.Result.{err_from_is_err_and}
+use Rattle.std.proofs.Common.{refl, sym, ◌∙◌}
+use Rattle.site.proofs.Calls.{number_above}
 use Rattle.plans.proofs.Refusing.{decode_right}
-use Rattle.plans.proofs.Dispatch.{assignment_by}
-use Rattle.plans.proofs.Posed.{withheld, held}
-use Rattle.plans.proofs.Calling.{decode_stops, decode_tested, decode_given}
+use Rattle.plans.proofs.Calling.{stopped, accepted_alike, bits_in, bytes_in, assignment_in, decode_stops, decode_tested, decode_given}
 use Rattle.plans.proofs.decode.Goals as goal
 
-pub returns-then-number-ne0 : goal.returns-then-number-ne0
-returns-then-number-ne0 c =
-    let h = held c.args.image.now c.args.ask _ _ _ _ (c.pose-posed.ensures.answer, (c.pose-posed.ensures.us, (c.pose-posed.ensures.vs, c.pose-posed.ensures.ws))) _ _ _ c.in-Accepted.is in
-    let r = decode_tested c.args.image.now c.args.ask h.given.alike _ h.given.is_bits _ h.given.is_bytes c.args.bits.now c.args.plan.now _ c.of_decoding-number.ensures (omega arith) in
-    record { lent = (refl, refl); answer = r.0; plan = r.1.0; number = r.1.1 }
+pub returns-in_err-posed-clause-answer : goal.returns-in_err-posed-clause-answer
+returns-in_err-posed-clause-answer c =
+    let q = err_from_is_err_and c.from_residual.result c.from_residual.ensures.1 in
+    rw (q.1, q.2) (decode_stops _ _ _ (stopped _ _ _ c.in_err-posed.ensures) c.args.bits.now c.args.plan.now).0
 
-pub slice_bounds-us-end : goal.slice_bounds-us-end
-slice_bounds-us-end c = (held _ _ _ _ _ _ (c.pose-posed.ensures.answer, (c.pose-posed.ensures.us, (c.pose-posed.ensures.vs, c.pose-posed.ensures.ws))) _ _ _ c.in-Accepted.is).room_u
+pub returns-in_err-posed-clause-plan : goal.returns-in_err-posed-clause-plan
+returns-in_err-posed-clause-plan c = (decode_stops _ _ _ (stopped _ _ _ c.in_err-posed.ensures) c.args.bits.now c.args.plan.now).1
 
-pub slice_bounds-decode-end : goal.slice_bounds-decode-end
-slice_bounds-decode-end c = sym (length-take-le _ _ (held _ _ _ _ _ _ (c.pose-posed.ensures.answer, (c.pose-posed.ensures.us, (c.pose-posed.ensures.vs, c.pose-posed.ensures.ws))) _ _ _ c.in-Accepted.is).room_u)
+pub returns-in_err-of_decoding-clause-answer : goal.returns-in_err-of_decoding-clause-answer
+returns-in_err-of_decoding-clause-answer c =
+    let q = err_from_is_err_and c.from_residual-in_err-of_decoding.result c.from_residual-in_err-of_decoding.ensures.1 in
+    rw (q.1, q.2) (decode_tested _ _ (accepted_alike _ _ c.in_ok-posed.ensures.0) _ (bits_in c.in_ok-posed.ensures.1 _ c.bits.ensures) _ (bytes_in c.in_ok-posed.ensures.1 _ c.plan_bytes.ensures) c.args.bits.now c.args.plan.now _ c.in_err-of_decoding.ensures (number_above _)).0
 
-pub slice_bounds-vs-end : goal.slice_bounds-vs-end
-slice_bounds-vs-end c = (held _ _ _ _ _ _ (c.pose-posed.ensures.answer, (c.pose-posed.ensures.us, (c.pose-posed.ensures.vs, c.pose-posed.ensures.ws))) _ _ _ c.in-Accepted.is).room_v
-
-pub slice_bounds-decode-end-in-Accepted : goal.slice_bounds-decode-end-in-Accepted
-slice_bounds-decode-end-in-Accepted c = sym (length-take-le _ _ (held _ _ _ _ _ _ (c.pose-posed.ensures.answer, (c.pose-posed.ensures.us, (c.pose-posed.ensures.vs, c.pose-posed.ensures.ws))) _ _ _ c.in-Accepted.is).room_v)
-
-pub slice_bounds-ws-end : goal.slice_bounds-ws-end
-slice_bounds-ws-end c = (held _ _ _ _ _ _ (c.pose-posed.ensures.answer, (c.pose-posed.ensures.us, (c.pose-posed.ensures.vs, c.pose-posed.ensures.ws))) _ _ _ c.in-Accepted.is).room_w
-
-pub slice_bounds-decode-end-in-Accepted-2 : goal.slice_bounds-decode-end-in-Accepted-2
-slice_bounds-decode-end-in-Accepted-2 c = sym (length-take-le _ _ (held _ _ _ _ _ _ (c.pose-posed.ensures.answer, (c.pose-posed.ensures.us, (c.pose-posed.ensures.vs, c.pose-posed.ensures.ws))) _ _ _ c.in-Accepted.is).room_w)
+pub returns-in_err-of_decoding-clause-plan : goal.returns-in_err-of_decoding-clause-plan
+returns-in_err-of_decoding-clause-plan c = (decode_tested _ _ (accepted_alike _ _ c.in_ok-posed.ensures.0) _ (bits_in c.in_ok-posed.ensures.1 _ c.bits.ensures) _ (bytes_in c.in_ok-posed.ensures.1 _ c.plan_bytes.ensures) c.args.bits.now c.args.plan.now _ c.in_err-of_decoding.ensures (number_above _)).1
 
 pub decode-requires : goal.decode-requires
 decode-requires c =
-    let h = held c.args.image.now c.args.ask _ _ _ _ (c.pose-posed.ensures.answer, (c.pose-posed.ensures.us, (c.pose-posed.ensures.vs, c.pose-posed.ensures.ws))) _ _ _ c.in-Accepted.is in
-    let w = decode_right _ _ _ _ (sym c.of_decoding-number.ensures ∙ omega arith) in
-    (h.ready, assignment_by h.is_bits w.0, w.1)
+    let r = decode_right _ _ _ _ (sym c.in_ok-of_decoding.ensures) in
+    (assignment_in c.bits.ensures r.0, r.1 ∙ c.plan_bytes.ensures)
 
-pub returns-in-Refused : goal.returns-in-Refused
-returns-in-Refused c =
-    let r = decode_stops c.args.image.now c.args.ask _ (withheld c.args.image.now c.args.ask _ c.pose-posed.ensures.answer _ c.in-Refused.is) c.args.bits.now c.args.plan.now in
-    record { lent = (refl, refl); answer = r.0; plan = r.1.0; number = r.1.1 }
+pub returns-clause-answer : goal.returns-clause-answer
+returns-clause-answer c = rw c.ok_or.ensures.value (decode_given _ _ (accepted_alike _ _ c.in_ok-posed.ensures.0) _ (bits_in c.in_ok-posed.ensures.1 _ c.bits.ensures) _ (bytes_in c.in_ok-posed.ensures.1 _ c.plan_bytes.ensures) c.args.bits.now c.args.plan.now _ c.in_ok-of_decoding.ensures refl _ c.in_ok-posed.ensures.1 _ _ c.decode.ensures.answer c.decode.ensures.plan).0
 
-pub returns-else-number-ne0 : goal.returns-else-number-ne0
-returns-else-number-ne0 c =
-    let h = held c.args.image.now c.args.ask _ _ _ _ (c.pose-posed.ensures.answer, (c.pose-posed.ensures.us, (c.pose-posed.ensures.vs, c.pose-posed.ensures.ws))) _ _ _ c.in-Accepted.is in
-    let r = decode_given c.args.image.now c.args.ask h.given.alike _ h.given.is_bits _ h.given.is_bytes c.args.bits.now c.args.plan.now _ c.of_decoding-number.ensures (omega arith) _ h.is_instance _ _ (c.decode.ensures.answer, c.decode.ensures.plan) in
-    record { lent = (refl, refl); answer = r.0; plan = r.1.0; number = r.1.1 }
+pub returns-clause-plan : goal.returns-clause-plan
+returns-clause-plan c = (decode_given _ _ (accepted_alike _ _ c.in_ok-posed.ensures.0) _ (bits_in c.in_ok-posed.ensures.1 _ c.bits.ensures) _ (bytes_in c.in_ok-posed.ensures.1 _ c.plan_bytes.ensures) c.args.bits.now c.args.plan.now _ c.in_ok-of_decoding.ensures refl _ c.in_ok-posed.ensures.1 _ _ c.decode.ensures.answer c.decode.ensures.plan).1

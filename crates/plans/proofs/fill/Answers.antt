@@ -1,53 +1,38 @@
-use mathlib.Core.Path.{sym, ◌∙◌}
-use lib.Seq.{length-take-le}
-use native.Mathlib.Omega.{arith}
+use Rattle.std.proofs.lemmas.Result.{err_from_is_err_and}
+use Rattle.std.proofs.Common.{refl, sym, arith}
+use Rattle.site.proofs.Calls.{number_above}
 use Rattle.plans.proofs.Refusing.{row_within}
-use Rattle.plans.proofs.Posed.{withheld, held}
-use Rattle.plans.proofs.Calling.{row_stops, row_tested, row_given}
+use Rattle.plans.proofs.Calling.{stopped, accepted_alike, bits_in, row_stops, row_tested, row_given}
 use Rattle.plans.proofs.fill.Goals as goal
 
-pub returns-then-number-ne0 : goal.returns-then-number-ne0
-returns-then-number-ne0 c =
-    let h = held c.args.image.now c.args.ask _ _ _ _ (c.pose-posed.ensures.answer, (c.pose-posed.ensures.us, (c.pose-posed.ensures.vs, c.pose-posed.ensures.ws))) _ _ _ c.in-Accepted.is in
-    let r = row_tested c.args.image.now c.args.ask h.given.alike _ h.given.is_bits c.args.i _ c.args.out.now c.of_row-number.ensures (omega arith) in
-    record { number = r.0; row = r.1 }
+pub returns-in_err-posed-clause-number : goal.returns-in_err-posed-clause-number
+returns-in_err-posed-clause-number c =
+    let q = err_from_is_err_and c.from_residual.result c.from_residual.ensures.1 in
+    rw (q.1, q.2) (row_stops _ _ _ (stopped _ _ _ c.in_err-posed.ensures) c.args.i c.args.out.now).0.0
 
-pub slice_bounds-us-end : goal.slice_bounds-us-end
-slice_bounds-us-end c = (held _ _ _ _ _ _ (c.pose-posed.ensures.answer, (c.pose-posed.ensures.us, (c.pose-posed.ensures.vs, c.pose-posed.ensures.ws))) _ _ _ c.in-Accepted.is).room_u
+pub returns-in_err-posed-clause-row : goal.returns-in_err-posed-clause-row
+returns-in_err-posed-clause-row c = (row_stops _ _ _ (stopped _ _ _ c.in_err-posed.ensures) c.args.i c.args.out.now).1
 
-pub slice_bounds-fill_row-end : goal.slice_bounds-fill_row-end
-slice_bounds-fill_row-end c = sym (length-take-le _ _ (held _ _ _ _ _ _ (c.pose-posed.ensures.answer, (c.pose-posed.ensures.us, (c.pose-posed.ensures.vs, c.pose-posed.ensures.ws))) _ _ _ c.in-Accepted.is).room_u)
+pub returns-in_err-of_row-clause-number : goal.returns-in_err-of_row-clause-number
+returns-in_err-of_row-clause-number c =
+    let q = err_from_is_err_and c.from_residual-in_err-of_row.result c.from_residual-in_err-of_row.ensures.1 in
+    rw (q.1, q.2) (row_tested _ _ (accepted_alike _ _ c.in_ok-posed.ensures.0) _ (bits_in c.in_ok-posed.ensures.1 _ c.bits-bits.ensures) c.args.i _ c.args.out.now c.in_err-of_row.ensures (number_above _)).0.0
 
-pub slice_bounds-vs-end : goal.slice_bounds-vs-end
-slice_bounds-vs-end c = (held _ _ _ _ _ _ (c.pose-posed.ensures.answer, (c.pose-posed.ensures.us, (c.pose-posed.ensures.vs, c.pose-posed.ensures.ws))) _ _ _ c.in-Accepted.is).room_v
-
-pub slice_bounds-fill_row-end-in-Accepted : goal.slice_bounds-fill_row-end-in-Accepted
-slice_bounds-fill_row-end-in-Accepted c = sym (length-take-le _ _ (held _ _ _ _ _ _ (c.pose-posed.ensures.answer, (c.pose-posed.ensures.us, (c.pose-posed.ensures.vs, c.pose-posed.ensures.ws))) _ _ _ c.in-Accepted.is).room_v)
-
-pub slice_bounds-ws-end : goal.slice_bounds-ws-end
-slice_bounds-ws-end c = (held _ _ _ _ _ _ (c.pose-posed.ensures.answer, (c.pose-posed.ensures.us, (c.pose-posed.ensures.vs, c.pose-posed.ensures.ws))) _ _ _ c.in-Accepted.is).room_w
-
-pub slice_bounds-fill_row-end-in-Accepted-2 : goal.slice_bounds-fill_row-end-in-Accepted-2
-slice_bounds-fill_row-end-in-Accepted-2 c = sym (length-take-le _ _ (held _ _ _ _ _ _ (c.pose-posed.ensures.answer, (c.pose-posed.ensures.us, (c.pose-posed.ensures.vs, c.pose-posed.ensures.ws))) _ _ _ c.in-Accepted.is).room_w)
+pub returns-in_err-of_row-clause-row : goal.returns-in_err-of_row-clause-row
+returns-in_err-of_row-clause-row c =
+    (row_tested _ _ (accepted_alike _ _ c.in_ok-posed.ensures.0) _ (bits_in c.in_ok-posed.ensures.1 _ c.bits-bits.ensures) c.args.i _ c.args.out.now c.in_err-of_row.ensures (number_above _)).1
 
 pub fill_row-requires : goal.fill_row-requires
-fill_row-requires c =
-    let h = held c.args.image.now c.args.ask _ _ _ _ (c.pose-posed.ensures.answer, (c.pose-posed.ensures.us, (c.pose-posed.ensures.vs, c.pose-posed.ensures.ws))) _ _ _ c.in-Accepted.is in
-    let w = row_within _ _ _ (sym c.of_row-number.ensures ∙ omega arith) in
-    (h.ready, omega (arith, w.0, h.is_bits), omega (arith, w.1, h.is_bits))
+fill_row-requires c = omega (arith, row_within _ _ _ (sym c.in_ok-of_row.ensures), c.bits-bits.ensures)
 
 pub overflow_sub-result : goal.overflow_sub-result
-overflow_sub-result c =
-    let w = row_within _ _ _ (sym c.of_row-number.ensures ∙ omega arith) in
-    omega (arith, w.0)
+overflow_sub-result c = omega (arith, row_within _ _ _ (sym c.in_ok-of_row.ensures))
 
-pub returns-in-Refused : goal.returns-in-Refused
-returns-in-Refused c =
-    let r = row_stops c.args.image.now c.args.ask _ (withheld c.args.image.now c.args.ask _ c.pose-posed.ensures.answer _ c.in-Refused.is) c.args.i c.args.out.now in
-    record { number = r.0; row = r.1 }
+pub returns-clause-number : goal.returns-clause-number
+returns-clause-number c =
+    let r = row_given _ _ (accepted_alike _ _ c.in_ok-posed.ensures.0) _ (bits_in c.in_ok-posed.ensures.1 _ c.bits-bits.ensures) c.args.i _ c.args.out.now c.in_ok-of_row.ensures refl _ c.in_ok-posed.ensures.1 _ c.fill_row.ensures in
+    (sym r.0.0, r.0.1)
 
-pub returns-else-number-ne0 : goal.returns-else-number-ne0
-returns-else-number-ne0 c =
-    let h = held c.args.image.now c.args.ask _ _ _ _ (c.pose-posed.ensures.answer, (c.pose-posed.ensures.us, (c.pose-posed.ensures.vs, c.pose-posed.ensures.ws))) _ _ _ c.in-Accepted.is in
-    let r = row_given c.args.image.now c.args.ask h.given.alike _ h.given.is_bits c.args.i _ c.args.out.now c.of_row-number.ensures (omega arith) _ h.is_instance _ c.fill_row.ensures in
-    record { number = r.0; row = r.1 }
+pub returns-clause-row : goal.returns-clause-row
+returns-clause-row c =
+    (row_given _ _ (accepted_alike _ _ c.in_ok-posed.ensures.0) _ (bits_in c.in_ok-posed.ensures.1 _ c.bits-bits.ensures) c.args.i _ c.args.out.now c.in_ok-of_row.ensures refl _ c.in_ok-posed.ensures.1 _ c.fill_row.ensures).1

@@ -1,25 +1,14 @@
-use mathlib.Core.Path.{refl, ap, ◌∙◌}
-use lib.IntN.{pos}
-use native.Mathlib.Omega.{arith}
-use mir.Syntax.{w64}
-use mir.Facts.{to_z_pos}
-use Rattle.plans.proofs.ByKind.{most_small}
-use Rattle.plans.proofs.Posed.{given, withheld}
-use Rattle.plans.proofs.Calling.{number_stops, number_given, penalty_said}
+use Rattle.std.proofs.lemmas.Result.{err_from_is_err_and}
+use Rattle.plans.proofs.Calling.{penalty_refused, penalty_given, penalty_below}
 use Rattle.plans.proofs.penalty.Goals as goal
 
-pub overflow_cast-result : goal.overflow_cast-result
-overflow_cast-result c =
-    let g = given c.args.image.now c.args.ask _ c.problem_in-posed.ensures _ _ _ c.in-Accepted.is in
-    omega (arith, g.small, most_small c.in-Accepted.problem.kind)
+pub returns-in_err-posed-clause-answer : goal.returns-in_err-posed-clause-answer
+returns-in_err-posed-clause-answer c =
+    let q = err_from_is_err_and c.from_residual.result c.from_residual.ensures.1 in
+    rw (q.1, q.2) (penalty_refused _ _ _ c.in_err-posed.ensures)
 
-pub returns-in-Refused : goal.returns-in-Refused
-returns-in-Refused c =
-    let r = penalty_said c.args.image.now c.args.ask _ (number_stops _ _ _ _ (withheld c.args.image.now c.args.ask _ c.problem_in-posed.ensures _ c.in-Refused.is)) in
-    record { lent = refl; answer = r.0; number = r.1 }
+pub returns-clause-answer : goal.returns-clause-answer
+returns-clause-answer c = penalty_given _ _ c.in_ok-posed.ensures.0 _ c.in_ok-posed.ensures.1 _ c.penalty.ensures
 
-pub returns-in-Accepted : goal.returns-in-Accepted
-returns-in-Accepted c =
-    let g = given c.args.image.now c.args.ask _ c.problem_in-posed.ensures _ _ _ c.in-Accepted.is in
-    let r = penalty_said c.args.image.now c.args.ask _ (number_given _ _ _ _ g.none (to_z_pos w64 {n = c.in-Accepted.problem.penalty} (omega (arith, g.small, most_small c.in-Accepted.problem.kind)) ∙ ap pos g.is_penalty)) in
-    record { lent = refl; answer = r.0; number = r.1 }
+pub returns-clause-small : goal.returns-clause-small
+returns-clause-small c = penalty_below _ _ c.in_ok-posed.ensures.0 _ c.in_ok-posed.ensures.1 _ c.penalty.ensures

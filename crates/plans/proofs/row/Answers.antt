@@ -1,14 +1,11 @@
-use mathlib.Core.Path.{refl, ap}
-use lib.ListN.{length}
-use native.Mathlib.Omega.{arith}
-use Rattle.plans.proofs.Calling.{row_front}
+use Rattle.std.proofs.Common.{length, ap, ◌∙◌, arith}
+use Rattle.plans.proofs.Calling.{row_len, row_front}
 use Rattle.plans.proofs.row.Goals as goal
 
 pub slice_bounds-result-end : goal.slice_bounds-result-end
 slice_bounds-result-end c =
-    let front = row_front _ _ _ c.args.out.now _ _ c.fill-filled.ensures.number.1 c.fill-filled.ensures.row in
-    omega (arith, c.fill-filled.ensures.number.1, ap length front)
+    let n = c.unwrap_or-len.ensures ∙ row_len _ _ _ c.args.out.now _ c.fill.ensures.number in
+    omega (arith, n, ap length (row_front _ _ _ c.args.out.now _ _ n c.fill.ensures.row))
 
-pub returns : goal.returns
-returns c =
-    record { lent = refl; part = row_front _ _ _ c.args.out.now _ _ c.fill-filled.ensures.number.1 c.fill-filled.ensures.row; place = refl }
+pub returns-clause-part : goal.returns-clause-part
+returns-clause-part c = row_front _ _ _ c.args.out.now _ _ (c.unwrap_or-len.ensures ∙ row_len _ _ _ c.args.out.now _ c.fill.ensures.number) c.fill.ensures.row

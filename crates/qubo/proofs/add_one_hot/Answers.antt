@@ -1,4 +1,4 @@
-use mathlib.Core.Path.{refl, sym, ◌∙◌}
+use mathlib.Core.Path.{sym}
 use mathlib.Core.List.{[], ◌∷◌}
 use mir.Facts.{to_z-of_z}
 use Rattle.qubo.specs.Rows.{run_one_hot}
@@ -8,12 +8,8 @@ use Rattle.qubo.proofs.add_one_hot.Goals as goal
 
 pub add_own_one_hot-requires : goal.add_own_one_hot-requires
 add_own_one_hot-requires c =
-    (c.number_in-t.ensures.0 c.if-t-count.true, c.requires.0, rw (to_z-of_z c.ranges.a) c.requires.1)
+    (c.in-Some.ensures, c.requires.0, rw (to_z-of_z c.ranges.a) c.requires.1)
 
-pub returns-then-t-count : goal.returns-then-t-count
-returns-then-t-count c =
-    c.add_own_one_hot.ensures ∙ rw (to_z-of_z c.ranges.a) refl
-
-pub returns-else-t-count : goal.returns-else-t-count
-returns-else-t-count c =
-    sym (add_absent (run_one_hot c.args.a c.args.run ∷ []) c.args.i c.args.row.now (one_hot_absent c.args.a c.args.run c.args.i (c.number_in-t.ensures.1 c.if-t-count.false)))
+pub returns-in_default : goal.returns-in_default
+returns-in_default c =
+    sym (add_absent (run_one_hot c.args.a c.args.run ∷ []) c.args.i c.args.row.now (one_hot_absent c.args.a c.args.run c.args.i c.in_default.ensures))

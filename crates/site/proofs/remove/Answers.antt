@@ -1,22 +1,24 @@
-use Rattle.site.proofs.Calls.{remove_needs}
-use mathlib.Core.Path.{sym, ◌∙◌}
-use Rattle.site.proofs.Calls.{remove_alike, remove_absent, remove_accepts, remove_stores}
+use Rattle.std.proofs.Common.{sym, ◌∙◌}
 use borrow.Author.Tests.{not-true, not-false}
+use Rattle.std.proofs.lemmas.Result.{err_from_is_err_and}
+use Rattle.site.proofs.Calls.{number_above, remove_needs, remove_alike, remove_absent, remove_accepts, remove_stores}
 use Rattle.site.proofs.remove.Goals as goal
 
-pub returns-then-found-ne0 : goal.returns-then-found-ne0
-returns-then-found-ne0 c = let p = remove_alike _ _ _ _ c.find-found.ensures.refusal_value c.if-found-ne0.true in
-    record { value = p.0; image_after = p.1 }
+pub returns-in_err-found : goal.returns-in_err-found
+returns-in_err-found c =
+    let p = remove_alike _ _ _ _ c.in_err-found.ensures (number_above _) in
+    let q = err_from_is_err_and c.from_residual.result c.from_residual.ensures.1 in
+    rw (q.1, q.2) (record { value = p.0; image_after = p.1 })
 
 pub returns-then-not-found : goal.returns-then-not-found
-returns-then-not-found c = let p = remove_absent _ _ _ (sym c.find-found.ensures.refusal_value ∙ c.if-found-ne0.false) (sym (c.find-found.ensures.u_value c.if-found-ne0.false).3 ∙ not-true _ c.if-not-found.true) in
+returns-then-not-found c = let p = remove_absent _ _ _ c.in_ok-found.ensures.0 (sym c.in_ok-found.ensures.4 ∙ not-true _ c.if-not-found.true) in
     record { value = p.0; image_after = p.1 }
 
 pub delete-requires : goal.delete-requires
-delete-requires c = let z = c.find-found.ensures.u_value c.if-found-ne0.false in
-    remove_needs _ _ _ _ _ _ (remove_accepts _ _ _ (sym c.find-found.ensures.refusal_value ∙ c.if-found-ne0.false) (sym z.3 ∙ not-false _ c.if-not-found.false)) z.0 z.1 z.2
+delete-requires c = let z = c.in_ok-found.ensures in
+    remove_needs _ _ _ _ (remove_accepts _ _ _ z.0 (sym z.4 ∙ not-false _ c.if-not-found.false)) z.3
 
 pub returns : goal.returns
-returns c = let z = c.find-found.ensures.u_value c.if-found-ne0.false in
-    let p = remove_stores _ _ _ _ _ _ (remove_accepts _ _ _ (sym c.find-found.ensures.refusal_value ∙ c.if-found-ne0.false) (sym z.3 ∙ not-false _ c.if-not-found.false)) z.0 z.1 c.delete.ensures in
+returns c = let z = c.in_ok-found.ensures in
+    let p = remove_stores _ _ _ _ (remove_accepts _ _ _ z.0 (sym z.4 ∙ not-false _ c.if-not-found.false)) (c.delete.ensures _ _ z.3) in
     record { value = p.0; image_after = p.1 }

@@ -1,11 +1,7 @@
-use Prim.Native.Nat.{◌≤◌, ◌-◌, ◌*◌}
+use Prim.Native.Nat.{◌≤◌, ◌*◌}
 use mathlib.Core.Path.{◌≡◌}
-use lib.ListN.{length}
 use Rattle.arcs.proofs.Summing.{misses_to}
 use Rattle.arcs.proofs.sums.part_misses.Given as goal
 
 abbrev pub invariant-loop-i : goal.invariant-loop-i
-invariant-loop-i l = (l.i ≤ length l.part) × (l.sum ≤ 2 * l.i) × (l.sum ≡ misses_to l.part l.above l.below l.i)
-
-abbrev pub decreases-loop-i : goal.decreases-loop-i
-decreases-loop-i l = length l.part - l.i
+invariant-loop-i l = (l.sum ≤ 2 * l.i) × (l.sum ≡ misses_to l.part l.above l.below l.i)

@@ -1,11 +1,6 @@
-use mathlib.Core.Path.{refl}
 use native.Mathlib.Omega.{arith}
-use Rattle.lists.proofs.Stores.{zero_entries}
 use Rattle.groups.proofs.Counted.{members_small, members_spread_is}
 use Rattle.groups.proofs.sizes.members_spread.Goals as goal
-
-pub count_choices-requires : goal.count_choices-requires
-count_choices-requires c = (c.requires.0, refl, zero_entries 256)
 
 pub spread_of-requires : goal.spread_of-requires
 spread_of-requires c =

@@ -1,10 +1,7 @@
-use Prim.Native.Nat.{◌≤◌, ◌+◌, ◌*◌, ◌-◌}
+use Prim.Native.Nat.{◌≤◌, ◌+◌, ◌*◌}
 use mathlib.Core.Path.{◌≡◌}
 use Rattle.groups.proofs.Counted.{spread_before}
 use Rattle.groups.proofs.sizes.spread_to.Given as goal
 
-abbrev pub invariant-loop-g : goal.invariant-loop-g
-invariant-loop-g l = (1 ≤ l.g) × (l.g ≤ l.h) × (l.sum + 2304 ≤ 2304 * l.g) × (l.sum ≡ spread_before l.sizes l.last l.g)
-
-abbrev pub decreases-loop-g : goal.decreases-loop-g
-decreases-loop-g l = l.h - l.g
+abbrev pub invariant-loop-size : goal.invariant-loop-size
+invariant-loop-size l = (l.sum ≤ 2304 * l.size-index) × (l.sum ≡ spread_before l.sizes l.last (l.size-index + 1))

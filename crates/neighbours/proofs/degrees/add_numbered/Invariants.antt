@@ -1,9 +1,5 @@
-use Prim.Native.Nat.{◌-◌}
 use Rattle.neighbours.proofs.DegreeParts.{Numbered}
 use Rattle.neighbours.proofs.degrees.add_numbered.Given as goal
 
 abbrev pub invariant-loop-t : goal.invariant-loop-t
 invariant-loop-t l = Numbered l.q l.i l.start l.d l.initial.row l.row l.t
-
-abbrev pub decreases-loop-t : goal.decreases-loop-t
-decreases-loop-t l = l.d - l.t

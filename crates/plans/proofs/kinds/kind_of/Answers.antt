@@ -1,17 +1,20 @@
-use native.Mathlib.Omega.{arith}
-use mathlib.Core.Path.{refl}
-use borrow.Author.Tests.{eq-eqb, ne_eqb}
+use Rattle.std.proofs.Common.{◌≡◌, ◌≤◌, arith}
 use Rattle.plans.specs.Kinds.{kind_of}
+use Rattle.plans.proofs.Refusing.{kind_1, kind_2, kind_3, kind_none, kind_tells}
 use Rattle.plans.proofs.kinds.kind_of.Goals as goal
+use Rattle.plans.proofs.kinds.kind_of.Goals.{in-1, in-2, in-3}
 
-pub returns-then-kind-eq1 : goal.returns-then-kind-eq1
-unfolding kind_of
-returns-then-kind-eq1 c = rw (eq-eqb c.args.ask.kind 1 (omega arith)) refl
+pub returns-in_default : goal.returns-in_default
+returns-in_default c = kind_none _ _ (λ e. omega arith) (λ e. omega arith) (λ e. omega arith)
 
-pub returns-then-kind-eq2 : goal.returns-then-kind-eq2
-unfolding kind_of
-returns-then-kind-eq2 c = rw (ne_eqb c.args.ask.kind 1 (omega arith), eq-eqb c.args.ask.kind 2 (omega arith)) refl
+pub returns-then-allows : goal.returns-then-allows
+returns-then-allows c =
+    let e : c.match-ask.kind ≡ kind_of c.args.ask = elim c.match-ask.branch [ in-1 w ↦ kind_1 _ _ w.kind-is (omega arith) | in-2 w ↦ kind_2 _ _ w.kind-is (omega arith) | in-3 w ↦ kind_3 _ _ w.kind-is (omega arith) ] in
+    let b : (1 ≤ c.args.ask.kind) × (c.args.ask.kind ≤ 3) = elim c.match-ask.branch [ in-1 w ↦ omega arith | in-2 w ↦ omega arith | in-3 w ↦ omega arith ] in
+    (kind_tells _ _ _ e b c.allows.ensures c.if-allows.true, e)
 
-pub returns : goal.returns
-unfolding kind_of
-returns c = rw (ne_eqb c.args.ask.kind 1 (omega arith), ne_eqb c.args.ask.kind 2 (omega arith)) refl
+pub returns-else-allows : goal.returns-else-allows
+returns-else-allows c =
+    let e : c.match-ask.kind ≡ kind_of c.args.ask = elim c.match-ask.branch [ in-1 w ↦ kind_1 _ _ w.kind-is (omega arith) | in-2 w ↦ kind_2 _ _ w.kind-is (omega arith) | in-3 w ↦ kind_3 _ _ w.kind-is (omega arith) ] in
+    let b : (1 ≤ c.args.ask.kind) × (c.args.ask.kind ≤ 3) = elim c.match-ask.branch [ in-1 w ↦ omega arith | in-2 w ↦ omega arith | in-3 w ↦ omega arith ] in
+    kind_tells _ _ _ e b c.allows.ensures c.if-allows.false

@@ -1,6 +1,4 @@
-use mathlib.Core.Bool.{not}
-use mathlib.Core.Path.{sym, ap, ◌∙◌}
-use native.Mathlib.Omega.{arith}
+use Rattle.std.proofs.Common.{not, sym, ap, ◌∙◌, arith}
 use Rattle.plans.proofs.Refusing.{energy_length, energy_no_bits, energy_fits}
 use Rattle.plans.proofs.refusals.of_energy.Goals as goal
 

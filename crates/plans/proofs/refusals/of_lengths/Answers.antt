@@ -1,12 +1,14 @@
-use native.Mathlib.Omega.{arith}
+use Rattle.std.proofs.Common.{arith}
 use Rattle.plans.proofs.Refusing.{lengths_plan, lengths_bits, lengths_fit}
 use Rattle.plans.proofs.refusals.of_lengths.Goals as goal
+use Rattle.plans.proofs.refusals.of_lengths.Goals.{then-plan-plan_bytes-via-then-plan-plan_bytes, then-plan-plan_bytes-via-else-plan-plan_bytes+then-bits-needed}
 
-pub returns-then-plan-meters : goal.returns-then-plan-meters
-returns-then-plan-meters c = lengths_plan _ _ _ _ (omega arith)
-
-pub returns-then-bits-needed : goal.returns-then-bits-needed
-returns-then-bits-needed c = lengths_bits _ _ _ _ (omega arith) (omega arith)
+pub returns-then-plan-plan_bytes : goal.returns-then-plan-plan_bytes
+returns-then-plan-plan_bytes c =
+    elim c.then-plan-plan_bytes.branch [
+      | then-plan-plan_bytes-via-then-plan-plan_bytes w ↦ lengths_plan _ _ _ _ w.if-plan-plan_bytes.true
+      | then-plan-plan_bytes-via-else-plan-plan_bytes+then-bits-needed w ↦ lengths_bits _ _ _ _ w.if-plan-plan_bytes.false w.if-bits-needed.true
+    ]
 
 pub returns : goal.returns
 returns c = lengths_fit _ _ _ _ (omega arith) (omega arith)

@@ -1,4 +1,4 @@
-use native.Mathlib.Omega.{arith}
+use Rattle.std.proofs.Common.{arith}
 use Rattle.plans.proofs.Refusing.{row_past, row_short, row_fits}
 use Rattle.plans.proofs.refusals.of_row.Goals as goal
 

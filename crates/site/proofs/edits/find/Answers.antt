@@ -1,30 +1,29 @@
-use mathlib.Core.Path.{sym, ◌∙◌}
-use native.Mathlib.Omega.{arith}
-use native.Mathlib.Nat.{suc-ne-zero}
+use Rattle.std.proofs.Common.{refl, sym, ◌∙◌, arith}
 use Rattle.site.specs.Layout.{byte}
-use Rattle.site.proofs.Calls.{find_image, find_ends, find_none, find_held, ends_tell, ends_taken, found}
-use borrow.Author.Tests.{not-true}
+use Rattle.site.proofs.Calls.{taken, low_min, high_max, find_image, find_ends, find_none, find_held, ends_tell, ends_taken, found}
 use Rattle.site.proofs.edits.find.Goals as goal
 
-pub returns-then-not-walk : goal.returns-then-not-walk
-returns-then-not-walk c = record { refusal_value = c.refused.ensures ∙ find_image _ _ _ (sym c.read_image-walk.ensures.ok_value ∙ not-true _ c.if-not-walk.true); u_value = λ z. absurd (suc-ne-zero 0 (sym c.refused.ensures ∙ z)) }
+pub returns-in_default : goal.returns-in_default
+returns-in_default c = find_image _ _ _ c.in_default.ensures
 
 pub bounds-image-0 : goal.bounds-image-0
-bounds-image-0 c = omega (arith, (find_held _ _ _ _ (c.read_image-walk.ensures.ok_value, c.read_image-walk.ensures.us_after) c.if-not-walk.false).1)
+bounds-image-0 c = omega (arith, (find_held _ _ _ _ c.in-Some.ensures.0 c.in-Some.ensures.2).0)
 
 pub returns-then-bad_ends : goal.returns-then-bad_ends
 unfolding byte
-returns-then-bad_ends c = record { refusal_value = c.refused-then-bad_ends.ensures ∙ find_ends _ _ _ (find_held _ _ _ _ (c.read_image-walk.ensures.ok_value, c.read_image-walk.ensures.us_after) c.if-not-walk.false).0 (ends_tell _ _ _ c.wide.ensures.0 c.bad_ends.ensures c.if-bad_ends.true); u_value = λ z. absurd (suc-ne-zero 1 (sym c.refused-then-bad_ends.ensures ∙ z)) }
+returns-then-bad_ends c = find_ends _ _ _ c.in-Some.ensures.0 (ends_tell _ _ _ refl c.bad_ends.ensures c.if-bad_ends.true)
 
 pub follower-q-requires : goal.follower-q-requires
-follower-q-requires c = let h = find_held _ _ _ _ (c.read_image-walk.ensures.ok_value, c.read_image-walk.ensures.us_after) c.if-not-walk.false in (h.1, h.3)
+follower-q-requires c = find_held _ _ _ _ c.in-Some.ensures.0 c.in-Some.ensures.2
 
 pub holds_link-requires : goal.holds_link-requires
-holds_link-requires c = (find_held _ _ _ _ (c.read_image-walk.ensures.ok_value, c.read_image-walk.ensures.us_after) c.if-not-walk.false).1
+holds_link-requires c = (find_held _ _ _ _ c.in-Some.ensures.0 c.in-Some.ensures.2).0
 
 pub returns : goal.returns
 unfolding byte
-returns c = let h = find_held _ _ _ _ (c.read_image-walk.ensures.ok_value, c.read_image-walk.ensures.us_after) c.if-not-walk.false in
-    let b = ends_tell _ _ _ c.wide.ensures.0 c.bad_ends.ensures c.if-bad_ends.false in
-    let e = ends_taken _ _ _ h.0 b c.low_of.ensures c.small-a.ensures.1 c.high_of.ensures c.small-b.ensures.1 in
-    record { refusal_value = find_none _ _ _ h.0 b; u_value = λ z. found _ _ _ _ _ _ _ h.0 e.0 e.1 h.2 c.follower-q.ensures.0 c.holds_link.ensures }
+returns c =
+    let h = c.in-Some.ensures in
+    let b = ends_tell _ _ _ refl c.bad_ends.ensures c.if-bad_ends.false in
+    let e = ends_taken _ _ _ h.0 b (c.min.ensures ∙ low_min _ _) (λ x. c.unwrap_or-a.ensures ∙ taken _ _ c.try_from.ensures x) (c.max.ensures ∙ high_max _ _) (λ x. c.unwrap_or-b.ensures ∙ taken _ _ c.try_from-2.ensures x) in
+    let f = found _ _ _ _ _ _ _ h.0 e.0 e.1 h.2 c.follower-q.ensures c.holds_link.ensures in
+    (sym (find_none _ _ _ h.0 b), f.0, f.1, f.2, f.3)

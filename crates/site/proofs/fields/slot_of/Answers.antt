@@ -1,6 +1,5 @@
 use Rattle.site.specs.Edits.{slot}
-use borrow.Author.Tests.{eq-eqb, ne_eqb}
-use native.Mathlib.Omega.{arith}
+use Rattle.std.proofs.Common.{arith, eq-eqb, ne_eqb}
 use Rattle.site.proofs.fields.slot_of.Goals as goal
 
 pub returns-then-p-eq0 : goal.returns-then-p-eq0

@@ -1,10 +1,7 @@
-use mathlib.Core.Path.{◌≡◌}
+use Rattle.std.proofs.Common.{◌≡◌, ◌-◌}
 use Rattle.site.specs.Layout.{first_free}
 use Rattle.site.specs.Inner.{walk_free}
 use Rattle.site.proofs.rules.frees_ok.Given as goal
 
-abbrev pub invariant-loop-left : goal.invariant-loop-left
-invariant-loop-left l = walk_free l.s l.count (first_free l.s) ≡ walk_free l.s l.left l.k
-
-abbrev pub decreases-loop-left : goal.decreases-loop-left
-decreases-loop-left l = l.left
+abbrev pub invariant-loop : goal.invariant-loop
+invariant-loop l = walk_free l.s l.count (first_free l.s) ≡ walk_free l.s (l.count - l.counter) l.k

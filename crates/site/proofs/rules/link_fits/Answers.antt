@@ -1,5 +1,8 @@
+use Rattle.std.proofs.Common.{◌<◌, arith}
 use Rattle.site.proofs.Turns.{fits_test}
 use Rattle.site.proofs.rules.link_fits.Goals as goal
 
 pub returns : goal.returns
-returns c = fits_test _ _ _ _ _ c.args.r.pad _ c.requires.2 c.both.ensures c.both-2.ensures c.both-link.ensures c.key_of.ensures c.both-3.ensures c.both-4.ensures
+returns c =
+    let h : c.args.r.link.weight < 65536 = omega arith in
+    fits_test _ _ _ _ _ h c.key_of.ensures

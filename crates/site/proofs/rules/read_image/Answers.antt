@@ -1,24 +1,32 @@
-use mathlib.Core.Path.{sym, ◌∙◌}
-use native.Mathlib.Omega.{arith}
+use Rattle.std.proofs.Common.{refl, sym, ◌∙◌, arith, length-take-le}
 use Rattle.site.specs.Layout.{count, byte}
 use Rattle.site.proofs.Walked.{checks_length, checks_head, checks_count}
 use Rattle.site.proofs.Valid.{valid_checks}
-use Rattle.site.proofs.Filling.{fails, image_read}
+use Rattle.site.proofs.Filling.{image_bad, image_told, image_read, over_joined}
 use Rattle.site.proofs.rules.read_image.Goals as goal
 
 pub returns-then-s-ne-IMAGE_LEN : goal.returns-then-s-ne-IMAGE_LEN
-returns-then-s-ne-IMAGE_LEN c = let e = sym (valid_checks _) ∙ checks_length _ c.if-s-ne-IMAGE_LEN.true in
-    record { ok_value = c.no_image.ensures ∙ sym e; us_after = (fails c.no_image.ensures e).1 }
+returns-then-s-ne-IMAGE_LEN c = sym (valid_checks _) ∙ checks_length _ c.if-s-ne-IMAGE_LEN.true
 
 pub returns-then-not-head_ok : goal.returns-then-not-head_ok
-returns-then-not-head_ok c = let e = sym (valid_checks _) ∙ checks_head _ c.if-s-ne-IMAGE_LEN.false (sym c.head_ok.ensures ∙ c.if-not-head_ok.true) in
-    record { ok_value = c.no_image-then-not-head_ok.ensures ∙ sym e; us_after = (fails c.no_image-then-not-head_ok.ensures e).1 }
+returns-then-not-head_ok c = sym (valid_checks _) ∙ checks_head _ c.if-s-ne-IMAGE_LEN.false (sym c.head_ok.ensures ∙ c.if-not-head_ok.true)
 
 pub returns-then-count-gt-RECORDS : goal.returns-then-count-gt-RECORDS
 unfolding count
-returns-then-count-gt-RECORDS c = let e = sym (valid_checks _) ∙ checks_count c.args.s.now c.if-s-ne-IMAGE_LEN.false (sym c.head_ok.ensures ∙ c.if-not-head_ok.false) (omega arith) in
-    record { ok_value = c.no_image-then-count-gt-RECORDS.ensures ∙ sym e; us_after = (fails c.no_image-then-count-gt-RECORDS.ensures e).1 }
+returns-then-count-gt-RECORDS c = sym (valid_checks _) ∙ checks_count c.args.s.now c.if-s-ne-IMAGE_LEN.false (sym c.head_ok.ensures ∙ c.if-not-head_ok.false) (omega arith)
 
-pub returns : goal.returns
+pub returns-in_default : goal.returns-in_default
 unfolding byte
-returns c = let w = image_read _ _ _ _ _ _ _ _ _ _ _ _ c.if-s-ne-IMAGE_LEN.false (sym c.head_ok.ensures ∙ c.if-not-head_ok.false) c.read_word-count.ensures.0 c.if-count-gt-RECORDS.false c.wide-meters.ensures.0 (c.walk_links-walk.ensures.ok_value, c.walk_links-walk.ensures.us_after) c.frees_ok.ensures c.both.ensures in record { ok_value = w.0; us_after = w.1 }
+returns-in_default c = image_bad _ _ _ c.args.a c.args.b c.if-s-ne-IMAGE_LEN.false (sym c.head_ok.ensures ∙ c.if-not-head_ok.false) c.read_word-count.ensures c.if-count-gt-RECORDS.false refl c.in_default.ensures (length-take-le _ _ (omega arith))
+
+pub returns-then-frees_ok : goal.returns-then-frees_ok
+unfolding byte
+returns-then-frees_ok c =
+    let v = sym (image_told _ _ _ _ _ c.if-s-ne-IMAGE_LEN.false (sym c.head_ok.ensures ∙ c.if-not-head_ok.false) c.read_word-count.ensures c.if-count-gt-RECORDS.false refl c.in-Some.ensures (length-take-le _ _ (omega arith)) c.frees_ok.ensures) ∙ c.if-frees_ok.true in
+    let r = image_read _ _ _ _ _ c.if-s-ne-IMAGE_LEN.false (sym c.head_ok.ensures ∙ c.if-not-head_ok.false) c.read_word-count.ensures c.if-count-gt-RECORDS.false refl c.in-Some.ensures (length-take-le _ _ (omega arith)) v in
+    (v, over_joined _ _ _ _ r.0 r.1 (omega arith), r.2)
+
+pub returns-else-frees_ok : goal.returns-else-frees_ok
+unfolding byte
+returns-else-frees_ok c =
+    sym (image_told _ _ _ _ _ c.if-s-ne-IMAGE_LEN.false (sym c.head_ok.ensures ∙ c.if-not-head_ok.false) c.read_word-count.ensures c.if-count-gt-RECORDS.false refl c.in-Some.ensures (length-take-le _ _ (omega arith)) c.frees_ok.ensures) ∙ c.if-frees_ok.false

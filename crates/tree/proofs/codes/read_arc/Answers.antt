@@ -1,15 +1,8 @@
-use Prim.Native.Nat.{◌+◌, ◌-◌}
-use mathlib.Core.Path.{refl, ◌∙◌}
+use Prim.Native.Nat.{◌-◌}
+use mathlib.Core.Path.{◌∙◌}
 use native.Mathlib.Omega.{arith}
-use Rattle.arcs.proofs.Slices.{slice_short}
 use Rattle.tree.proofs.ReadParents.{cut_set, one_parent, entry_added}
 use Rattle.tree.proofs.codes.read_arc.Goals as goal
-
-pub set_count-count-requires : goal.set_count-count-requires
-set_count-count-requires c = slice_short c.args.bits.now c.args.start (c.args.start + c.args.deepest) c.args.deepest refl c.requires.bits.2 (omega arith) c.requires.bits.0
-
-pub overflow_cast-sum : goal.overflow_cast-sum
-overflow_cast-sum c = omega (arith, c.requires.u_bound.3 (c.args.v - 1))
 
 pub overflow_mul-sum : goal.overflow_mul-sum
 overflow_mul-sum c =

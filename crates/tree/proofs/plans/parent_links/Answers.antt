@@ -1,62 +1,30 @@
 use native.Mathlib.Omega.{arith}
-use lib.ListN.{get_or}
-use Rattle.lists.specs.Sums.{nth}
-use Rattle.lists.proofs.Sums.{same_le}
-use Rattle.links.proofs.Walk.{ends_at, few_links, summed_start}
-use Rattle.tree.proofs.PlanTest.{joined_turn, joined_end}
+use Rattle.links.specs.Links.{nothing, link_in}
+use Rattle.links.proofs.Walk.{link_at}
+use Rattle.lists.proofs.Walks.{summed_turn}
+use Rattle.tree.proofs.ParentLinks.{joining}
+use Rattle.tree.proofs.PlanTest.{joined_link, joining_le, joined_end}
 use Rattle.tree.proofs.plans.parent_links.Goals as goal
-
-pub loop-k-init : goal.loop-k-init
-loop-k-init c = (omega arith, omega arith, λ ws. summed_start _ _ ws _)
-
-pub bounds-vs-k : goal.bounds-vs-k
-bounds-vs-k c = omega (arith, c.requires.arrays.same_v)
-
-pub bounds-us-k : goal.bounds-us-k
-bounds-us-k c = omega arith
 
 pub is_parent-up-requires : goal.is_parent-up-requires
 is_parent-up-requires c =
-    let e = ends_at _ _ _ c.requires c.loop-k.k (omega arith) in
-    (e.0, omega (arith, e))
-
-pub bounds-us-k-in-loop-k : goal.bounds-us-k-in-loop-k
-bounds-us-k-in-loop-k c = omega arith
-
-pub bounds-vs-k-in-loop-k : goal.bounds-vs-k-in-loop-k
-bounds-vs-k-in-loop-k c = omega (arith, c.requires.arrays.same_v)
+    let s = c.args.survey.now in
+    let o = link_at s.meters s.links.now s.each c.loop-link.link-index c.loop-link-test.true in
+    (o.u_low, omega (arith, o.ordered, o.v_high, c.requires))
 
 pub is_parent-down-requires : goal.is_parent-down-requires
 is_parent-down-requires c =
-    let e = ends_at _ _ _ c.requires c.loop-k.k (omega arith) in
-    (omega (arith, e), e.2)
+    let s = c.args.survey.now in
+    let o = link_at s.meters s.links.now s.each c.loop-link.link-index c.loop-link-test.true in
+    (omega (arith, o.u_low, o.ordered), omega (arith, o.v_high, c.requires))
 
-pub overflow_add-count : goal.overflow_add-count
-overflow_add-count c =
-    let a = c.args in
-    let u = get_or a.us.now c.loop-k.k 0 in
-    let v = get_or a.vs.now c.loop-k.k 0 in
-    omega (arith, c.is_parent-up.ensures, c.is_parent-down.ensures, same_le (nth a.plan.now u) v, same_le (nth a.plan.now v) u)
-
-pub overflow_add-count-in-loop-k : goal.overflow_add-count-in-loop-k
-overflow_add-count-in-loop-k c =
-    let a = c.args in
-    let u = get_or a.us.now c.loop-k.k 0 in
-    let v = get_or a.vs.now c.loop-k.k 0 in
-    omega (arith, c.is_parent-up.ensures, c.is_parent-down.ensures, same_le (nth a.plan.now u) v, same_le (nth a.plan.now v) u, c.loop-k.invariant.1, few_links _ _ _ c.requires)
-
-pub overflow_add-k : goal.overflow_add-k
-overflow_add-k c = omega (arith, few_links _ _ _ c.requires)
-
-pub loop-k-smaller : goal.loop-k-smaller
-loop-k-smaller c = omega arith
-
-pub loop-k-preserved : goal.loop-k-preserved
-loop-k-preserved c =
-    let a = c.args in
-    let u = get_or a.us.now c.loop-k.k 0 in
-    let v = get_or a.vs.now c.loop-k.k 0 in
-    (omega arith, omega (arith, c.is_parent-up.ensures, c.is_parent-down.ensures, same_le (nth a.plan.now u) v, same_le (nth a.plan.now v) u, c.loop-k.invariant.1), joined_turn _ _ _ _ _ c.loop-k.invariant.2 _ _ (omega arith) c.is_parent-up.ensures c.is_parent-down.ensures)
+pub loop-link-preserved : goal.loop-link-preserved
+loop-link-preserved c =
+    let p = c.args.plan.now in
+    let ls = c.args.survey.now.links.now in
+    let l = c.loop-link in
+    let e = joined_link p (link_in ls l.link-index) _ _ c.is_parent-up.ensures c.is_parent-down.ensures in
+    (summed_turn (joining p) ls nothing l.link-index l.count l.invariant.0 c.loop-link-test.true _ e, omega (arith, l.invariant.1, e, joining_le p (link_in ls l.link-index)))
 
 pub returns : goal.returns
-returns c = joined_end _ _ _ _ _ c.loop-k.invariant.2 (omega arith)
+returns c = joined_end _ _ c.loop-link.link-index _ c.loop-link.invariant.0 c.loop-link-test.false

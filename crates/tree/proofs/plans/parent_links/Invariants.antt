@@ -1,10 +1,7 @@
-use Prim.Native.Nat.{◌*◌, ◌-◌, ◌≤◌}
-use lib.ListN.{length}
-use Rattle.tree.proofs.PlanTest.{Joined}
+use Rattle.std.proofs.Common.{◌*◌, ◌≤◌}
+use Rattle.lists.proofs.Walks.{Summed}
+use Rattle.tree.proofs.ParentLinks.{joining}
 use Rattle.tree.proofs.plans.parent_links.Given as goal
 
-abbrev pub invariant-loop-k : goal.invariant-loop-k
-invariant-loop-k l = (l.k ≤ length l.us) × (l.count ≤ 2 * l.k) × Joined l.plan l.us l.vs l.k l.count
-
-abbrev pub decreases-loop-k : goal.decreases-loop-k
-decreases-loop-k l = length l.us - l.k
+abbrev pub invariant-loop-link : goal.invariant-loop-link
+invariant-loop-link l = Summed (joining l.plan) l.link-items l.link-index l.count × (l.count ≤ 2 * l.link-index)

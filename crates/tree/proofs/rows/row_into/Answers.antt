@@ -1,25 +1,27 @@
-use Rattle.tree.proofs.RowParts.{place_asks, depths_ready, counts_ready, arcs_ready, row_done}
+use Rattle.links.proofs.Walk.{is_survey}
+use Rattle.tree.proofs.RowParts.{depths_ready, counts_ready, arcs_ready, row_done}
 use Rattle.tree.proofs.rows.row_into.Goals as goal
 
-pub place_of-place-requires : goal.place_of-place-requires
-place_of-place-requires c = let p = c.requires in place_asks _ _ _ _ _ _ _ _ p.0 p.1 p.2 _ p.3 p.4
-
-pub add_depth_part-requires : goal.add_depth_part-requires
-add_depth_part-requires c =
+pub add_depth_part-requires-clause-row : goal.add_depth_part-requires-clause-row
+add_depth_part-requires-clause-row c =
+    let s = c.args.neighbours.now in
     let p = c.requires in
-    (record { weights = _; lent = (place_asks _ _ _ _ _ _ _ _ p.0 p.1 p.2 _ p.3 p.4).0; place = c.place_of-place.ensures }, depths_ready _ _ _ _ _ _ _ _ p.0 p.1 p.2 _ p.3 p.4 _ c.clear.ensures)
+    depths_ready _ _ _ _ _ _ (is_survey s.arcs.survey) s.high s.arcs.shallow p.1 _ p.2 p.3 _ c.clear.ensures
 
-pub add_count_part-requires : goal.add_count_part-requires
-add_count_part-requires c =
+pub add_count_part-requires-clause-row : goal.add_count_part-requires-clause-row
+add_count_part-requires-clause-row c =
+    let s = c.args.neighbours.now in
     let p = c.requires in
-    (record { weights = _; lent = (place_asks _ _ _ _ _ _ _ _ p.0 p.1 p.2 _ p.3 p.4).0; place = c.place_of-place.ensures }, p.0.low, p.0.high, counts_ready _ _ _ _ _ _ _ _ p.0 p.1 p.2 _ p.3 p.4 _ c.clear.ensures _ (c.add_depth_part.ensures _))
+    counts_ready _ _ _ _ _ _ (is_survey s.arcs.survey) s.high s.arcs.shallow p.1 _ p.2 p.3 _ c.clear.ensures _ c.add_depth_part.ensures
 
-pub add_arc_part-requires : goal.add_arc_part-requires
-add_arc_part-requires c =
+pub add_arc_part-requires-clause-row : goal.add_arc_part-requires-clause-row
+add_arc_part-requires-clause-row c =
+    let s = c.args.neighbours.now in
     let p = c.requires in
-    (record { weights = _; lent = (place_asks _ _ _ _ _ _ _ _ p.0 p.1 p.2 _ p.3 p.4).0; place = c.place_of-place.ensures }, arcs_ready _ _ _ _ _ _ _ _ p.0 p.1 p.2 _ p.3 p.4 _ c.clear.ensures _ (c.add_depth_part.ensures _) _ (c.add_count_part.ensures _))
+    arcs_ready _ _ _ _ _ _ (is_survey s.arcs.survey) s.high s.arcs.shallow p.1 _ p.2 p.3 _ c.clear.ensures _ c.add_depth_part.ensures _ c.add_count_part.ensures
 
 pub returns : goal.returns
 returns c =
+    let s = c.args.neighbours.now in
     let p = c.requires in
-    row_done _ _ _ _ _ _ _ _ p.0 p.1 p.2 _ p.3 p.4 _ c.clear.ensures _ (c.add_depth_part.ensures _) _ (c.add_count_part.ensures _) _ (c.add_arc_part.ensures _ c.place_of-place.ensures)
+    row_done _ _ _ _ _ _ (is_survey s.arcs.survey) s.high s.arcs.shallow p.1 _ p.2 p.3 _ c.clear.ensures _ c.add_depth_part.ensures _ c.add_count_part.ensures _ c.add_arc_part.ensures

@@ -1,0 +1,18 @@
+// What a bit of a tree stands for.
+
+/// The bit of a meter at a depth; of an arc (its number, parent, child and weight) at a depth; or one behind these.
+#[derive(Clone, Copy, Debug, PartialEq, Eq)]
+pub enum Place {
+    OfDepth {
+        meter: usize,
+        depth: usize,
+    },
+    OfArc {
+        number: usize,
+        parent: usize,
+        child: usize,
+        weight: u64,
+        depth: usize,
+    },
+    Behind,
+}

@@ -1,0 +1,85 @@
+// Channels for the meters of a survey: what their table is made for.
+ghost use Rattle.std.specs.Prelude.{◌≤◌, ◌^◌};
+
+use crate::loads;
+use links::Survey;
+use qubo::{Decoded, Problem};
+
+/// n channels for the meters of a survey, and the penalty A.
+#[derive(Clone, Copy)]
+pub struct Channels<'a> {
+    pub survey: Survey<'a>,
+    pub n: usize,
+    pub penalty: u64,
+    pub ghost low: { 1 ≤ n },
+    pub ghost high: { n ≤ 16 },
+    pub ghost small: { penalty ≤ 2 ^ 32 },
+}
+
+impl Channels<'_> {
+    ghost use Rattle.std.specs.Prelude.{◌≡◌};
+    ghost use Rattle.channels.specs.Formula.{within_limits, penalty};
+
+    /// The limits of n.
+    pub const MIN: u64 = 1;
+
+    pub const MAX: u64 = 16;
+
+    /// Whether n is within the limits.
+    #[tactic(auto, unfolding(crate::specs::Formula::within_limits))]
+    pub fn allows(n: u64) -> bool
+        ensures { result ≡ within_limits n }
+    {
+        Channels::MIN <= n && n <= Channels::MAX
+    }
+
+    /// A: 1 plus the greatest sum of link weights at one meter.
+    pub fn own_penalty(survey: &Survey) -> u64
+        ensures { result ≡ penalty survey.now.meters survey.now.links.now }
+    {
+        1 + loads::greatest_load(&loads::loads_of(survey), survey.meters)
+    }
+}
+
+impl Problem for Channels<'_> {
+    ghost use Rattle.channels.specs.Instance.{instance};
+
+    ghost instance = { λ c. instance c.penalty c.survey.meters c.n c.survey.links.now };
+
+    fn bits(&self) -> usize {
+        self.survey.meters * self.n
+    }
+
+    /// A for each meter, whatever n and the links are.
+    fn constant(&self) -> i64 {
+        (self.penalty * (self.survey.meters as u64)) as i64
+    }
+
+    fn row_into(&self, i: usize, row: &mut [i64]) {
+        qubo::clear(row);
+        onehot::add_one_hots(row, i, self.n, self.penalty);
+        self.add_clashes(row, i);
+    }
+
+    /// By the formula itself.
+    fn energy(&self, bits: &[u8]) -> i64 {
+        let missed = onehot::misses_of(bits, self.survey.meters, self.n);
+        (self.penalty * missed + self.clashing(bits)) as i64
+    }
+
+    fn encode(&self, plan: &[u8], bits: &mut [u8]) -> bool {
+        let is_plan = onehot::are_choices(plan, self.survey.meters, self.n);
+        if is_plan {
+            onehot::encode(plan, self.survey.meters, self.n, bits);
+        }
+        is_plan
+    }
+
+    /// Every assignment decodes to a plan.
+    fn decode(&self, bits: &[u8], plan: &mut [u8]) -> Option<Decoded> {
+        self.repair_all(bits, plan);
+        let weight = onehot::alike_weight(plan, &self.survey);
+        let repaired = self.repaired_count(bits);
+        Some(Decoded { weight, repaired })
+    }
+}
