@@ -24,22 +24,29 @@ use Rattle.arcs.proofs.LinkBits.{set_halves, none_set}
 use Rattle.arcs.proofs.ArcSums.{ArcsSummed, summed_start, summed_turn, summed_end}
 use Rattle.arcs.proofs.Slices.{slice, slice_length, slice_at, slice_nth, slice_bits, meter_within}
 
--- ---- root_count: the depth-0 bits of the meters up to v
+-- ---- a walk from 1 on: at v those before v are summed
 
-pub roots_to : ℕ → List ℕ → ℕ → ℕ
-roots_to D x v = sum_to v (λ u. depth_at D x u 0)
+pub step_up : (f : ℕ → ℕ) (v : ℕ) → 1 ≤ v → sum_to (pred (v + 1)) f ≡ sum_to (pred v) f + f v
+unfolding sum_to
+step_up f zero h = absurd (omega arith)
+step_up f (suc k) h = rw (add-one (suc k)) refl
 
-pub roots_start : (D : ℕ) (x : List ℕ) → roots_to D x 0 ≡ 0
-unfolding roots_to
+-- ---- root_count: the depth-0 bits of the meters before v
+
+pub roots_before : ℕ → List ℕ → ℕ → ℕ
+roots_before D x v = sum_to (pred v) (λ u. depth_at D x u 0)
+
+pub roots_start : (D : ℕ) (x : List ℕ) → roots_before D x 1 ≡ 0
+unfolding roots_before
 roots_start D x = sum_to_zero _
 
-pub roots_next : (D : ℕ) (x : List ℕ) (v p : ℕ) → p ≡ depth_bit D (v + 1) 0 → roots_to D x (v + 1) ≡ roots_to D x v + get_or x p 0
-unfolding roots_to depth_at
-roots_next D x v p e = rw (e, add-one v) (rw add-one at (sum_to_next v (λ u. depth_at D x u 0)))
+pub roots_next : (D : ℕ) (x : List ℕ) (v p : ℕ) → 1 ≤ v → p ≡ depth_bit D v 0 → roots_before D x (v + 1) ≡ roots_before D x v + get_or x p 0
+unfolding roots_before depth_at
+roots_next D x v p h e = rw e (step_up (λ u. depth_at D x u 0) v h)
 
-pub roots_end : (D : ℕ) (x : List ℕ) (v N sum : ℕ) → v ≡ N → sum ≡ roots_to D x v → sum ≡ sum_to N (λ u. depth_at D x u 0)
-unfolding roots_to
-roots_end D x v N sum e d = rw (← e) d
+pub roots_end : (D : ℕ) (x : List ℕ) (v N sum : ℕ) → v ≡ N + 1 → sum ≡ roots_before D x v → sum ≡ sum_to N (λ u. depth_at D x u 0)
+unfolding roots_before
+roots_end D x v N sum e d = rw (e, add-one N) at d
 
 -- the square of what it misses of 1
 pub root_miss_is : (N D : ℕ) (x : List ℕ) (k r : ℕ) → k ≡ sum_to N (λ v. depth_at D x v 0) → r ≡ miss_squared k → r ≡ root_miss N (depth_at D x)
@@ -93,6 +100,21 @@ bit_gap_steps b c h k =
     let e = bit_gap b c h in
     (mul-le-mul {n₁ = c} {m₁ = c} {n₂ = 48} {m₂ = 48} k k, mul-le-mul {n₁ = 2 * b} {m₁ = c} {n₂ = 2} {m₂ = 48} (omega arith) k, omega (arith, e), omega (arith, e), gap_small b c 48 (omega arith) k)
 
+-- the loop goes over both behind depth 0: at its step k it has what they are at depth k + 1
+module _ (part counts : List ℕ) (own : 1 ≤ length part) (size : length counts ≡ length part) where
+  pub tails_length : (length (slice part 1 (length part)) + 1 ≡ length part) × (length (slice counts 1 (length counts)) + 1 ≡ length part)
+  tails_length =
+      (omega (arith, slice_length part 1 (length part) (length part - 1) (omega arith) (omega arith)), omega (arith, slice_length counts 1 (length counts) (length counts - 1) (omega arith) (omega arith)))
+
+  pub tails_turn : Bits part → ((t : ℕ) → 1 ≤ t → t < length part → get_or counts t 0 ≤ 48) → (k b c : ℕ) → k + 1 < length part → b ≡ get_or (slice part 1 (length part)) k 0 → c ≡ get_or (slice counts 1 (length counts)) k 0
+      → (c * c ≤ 2304) × (2 * b * c ≤ 96) × (2 * b * c ≤ b + c * c) × (b + c * c - 2 * b * c ≤ 2304) × (gaps_before part counts (k + 1 + 1) ≡ gaps_before part counts (k + 1) + (b + c * c - 2 * b * c))
+  tails_turn bits small k b c h e f =
+      let next : 1 + k ≡ k + 1 = omega arith in
+      let b_is : b ≡ get_or part (k + 1) 0 = e ∙ slice_at part 1 (length part) (length part - 1) (omega arith) (omega arith) k (omega arith) ∙ ap (λ (t : ℕ). get_or part t 0) next in
+      let c_is : c ≡ get_or counts (k + 1) 0 = f ∙ slice_at counts 1 (length counts) (length counts - 1) (omega arith) (omega arith) k (omega arith) ∙ ap (λ (t : ℕ). get_or counts t 0) next in
+      let steps = bit_gap_steps (get_or part (k + 1) 0) (get_or counts (k + 1) 0) (bits (k + 1)) (small (k + 1) (omega arith) h) in
+      rw (b_is, c_is) (steps.0, steps.1, steps.2, omega (arith, steps.3, steps.4), gaps_next part counts (k + 1) (omega arith) ∙ ap (λ (t : ℕ). gaps_before part counts (k + 1) + t) (sym steps.3))
+
 -- ---- part_misses: the depths up to i of an arc
 
 pub misses_to : List ℕ → List ℕ → List ℕ → ℕ → ℕ
@@ -116,38 +138,38 @@ miss_small zero s h = omega arith
 miss_small (suc zero) s h = omega arith
 miss_small (suc (suc b)) s h = absurd (omega arith)
 
--- ---- meter_gaps: the meters up to v
+-- ---- meter_gaps: the meters before v
 
 -- the squared gaps of meter v
 pub meter_gaps : ℕ → List ℕ → List ℕ → ℕ → ℕ
 meter_gaps D x counts v = sum_to D (λ i. gap (depth_at D x v i) (get_or counts (depth_bit D v i) 0) * gap (depth_at D x v i) (get_or counts (depth_bit D v i) 0))
 
 pub meters_gaps : ℕ → List ℕ → List ℕ → ℕ → ℕ
-meters_gaps D x counts v = sum_to v (meter_gaps D x counts)
+meters_gaps D x counts v = sum_to (pred v) (meter_gaps D x counts)
 
-pub meters_start : (D : ℕ) (x counts : List ℕ) → meters_gaps D x counts 0 ≡ 0
+pub meters_start : (D : ℕ) (x counts : List ℕ) → meters_gaps D x counts 1 ≡ 0
 unfolding meters_gaps
 meters_start D x counts = sum_to_zero _
 
-pub meters_end : (D : ℕ) (x counts : List ℕ) (v N sum : ℕ) → v ≡ N → sum ≡ meters_gaps D x counts v
+pub meters_end : (D : ℕ) (x counts : List ℕ) (v N sum : ℕ) → v ≡ N + 1 → sum ≡ meters_gaps D x counts v
     → sum ≡ sum_to N (λ u. sum_to D (λ i. gap (depth_at D x u i) (get_or counts (depth_bit D u i) 0) * gap (depth_at D x u i) (get_or counts (depth_bit D u i) 0)))
 unfolding meters_gaps meter_gaps
-meters_end D x counts v N sum e d = rw e at d
+meters_end D x counts v N sum e d = rw (e, add-one N) at d
 
--- the parts of meter v + 1
-module _ (D v : ℕ) (x counts : List ℕ) (f e : ℕ) (first : f ≡ depth_bit D (v + 1) 0) (end : e ≡ f + suc D) (fits : e ≤ length x) (room : e ≤ length counts) where
+-- the parts of meter v
+module _ (D v : ℕ) (x counts : List ℕ) (f e : ℕ) (low : 1 ≤ v) (first : f ≡ depth_bit D v 0) (end : e ≡ f + suc D) (fits : e ≤ length x) (room : e ≤ length counts) where
   bits_length : length (slice x f e) ≡ suc D
   bits_length = slice_length x f e (suc D) end fits
 
   counts_length : length (slice counts f e) ≡ suc D
   counts_length = slice_length counts f e (suc D) end room
 
-  bits_at : (i : ℕ) → i ≤ D → get_or (slice x f e) i 0 ≡ depth_at D x (v + 1) i
+  bits_at : (i : ℕ) → i ≤ D → get_or (slice x f e) i 0 ≡ depth_at D x v i
   unfolding depth_at
-  bits_at i h = let g : f + i ≡ depth_bit D (v + 1) i = omega arith in rw (slice_at x f e (suc D) end fits i (omega arith), g) refl
+  bits_at i h = let g : f + i ≡ depth_bit D v i = omega arith in rw (slice_at x f e (suc D) end fits i (omega arith), g) refl
 
-  counts_at : (i : ℕ) → i ≤ D → get_or (slice counts f e) i 0 ≡ get_or counts (depth_bit D (v + 1) i) 0
-  counts_at i h = let g : f + i ≡ depth_bit D (v + 1) i = omega arith in rw (slice_at counts f e (suc D) end room i (omega arith), g) refl
+  counts_at : (i : ℕ) → i ≤ D → get_or (slice counts f e) i 0 ≡ get_or counts (depth_bit D v i) 0
+  counts_at i h = let g : f + i ≡ depth_bit D v i = omega arith in rw (slice_at counts f e (suc D) end room i (omega arith), g) refl
 
   -- what part_gaps asks of them
   pub gaps_room : D ≤ 24 → Bits x → ((u i : ℕ) → 1 ≤ u → 1 ≤ i → i ≤ D → get_or counts (depth_bit D u i) 0 ≤ 48)
@@ -161,13 +183,13 @@ module _ (D v : ℕ) (x counts : List ℕ) (f e : ℕ) (first : f ≡ depth_bit 
     omega (arith, bits_length),
     counts_length ∙ sym bits_length,
     slice_bits x f e (suc D) end fits b,
-    λ t p q. let h : t ≤ D = omega (arith, bits_length) in omega (arith, counts_at t h, l (v + 1) t (omega arith) p h),
+    λ t p q. let h : t ≤ D = omega (arith, bits_length) in omega (arith, counts_at t h, l v t low p h),
   )
 
   -- their squared gaps are added
   pub meters_next : (r : ℕ) → r ≡ sum_to (pred (length (slice x f e))) (λ t. gap (get_or (slice x f e) t 0) (get_or (slice counts f e) t 0) * gap (get_or (slice x f e) t 0) (get_or (slice counts f e) t 0)) → meters_gaps D x counts (v + 1) ≡ meters_gaps D x counts v + r
   unfolding meters_gaps meter_gaps
-  meters_next r is = sum_to_next v (meter_gaps D x counts) ∙ ap (λ (k : ℕ). meters_gaps D x counts v + k) (own ∙ sym is)
+  meters_next r is = step_up (meter_gaps D x counts) v low ∙ ap (λ (k : ℕ). meters_gaps D x counts v + k) (own ∙ sym is)
     where
       squared : ℕ → ℕ → ℕ
       squared a b = gap a b * gap a b
@@ -175,10 +197,9 @@ module _ (D v : ℕ) (x counts : List ℕ) (f e : ℕ) (first : f ≡ depth_bit 
       d : pred (length (slice x f e)) ≡ D
       d = omega (arith, bits_length)
 
-      own : meter_gaps D x counts (suc v) ≡ sum_to (pred (length (slice x f e))) (λ t. squared (get_or (slice x f e) t 0) (get_or (slice counts f e) t 0))
+      own : meter_gaps D x counts v ≡ sum_to (pred (length (slice x f e))) (λ t. squared (get_or (slice x f e) t 0) (get_or (slice counts f e) t 0))
       own =
-          ap (meter_gaps D x counts) (sym (add-one v))
-          ∙ sum_to_eq D (λ t. squared (depth_at D x (v + 1) t) (get_or counts (depth_bit D (v + 1) t) 0)) (λ t. squared (get_or (slice x f e) t 0) (get_or (slice counts f e) t 0))
+          sum_to_eq D (λ t. squared (depth_at D x v t) (get_or counts (depth_bit D v t) 0)) (λ t. squared (get_or (slice x f e) t 0) (get_or (slice counts f e) t 0))
           (λ t p q. ap₂ squared (sym (bits_at t q)) (sym (counts_at t q)))
           ∙ ap (λ (k : ℕ). sum_to k (λ t. squared (get_or (slice x f e) t 0) (get_or (slice counts f e) t 0))) (sym d)
 

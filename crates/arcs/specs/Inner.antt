@@ -1,5 +1,5 @@
 -- Only contracts between functions cite this: a reader of the public promises may skip it. What the code of this crate and of the kinds above asks for, what bit i of a table is, and what walks over the links add. Assumes nothing.
-use Rattle.std.specs.Prelude.{ℕ, ◌+◌, ◌^◌, ◌≤◌, pred, ◌*◌, ◌<◌, ◌≡◌, cond, ◌&&◌, length, get_or, ℤ, pos, nat_abs, ◌*ℤ◌, eqb, leb}
+use Rattle.std.specs.Prelude.{ℕ, ◌+◌, ◌-◌, ◌^◌, ◌≤◌, pred, ◌*◌, ◌<◌, ◌≡◌, cond, ◌&&◌, length, get_or, ℤ, pos, nat_abs, ◌*ℤ◌, eqb, leb}
 use mathlib.Core.List.{List, Memᴰ, [], ◌∷◌}
 use Rattle.lists.specs.Sums.{sum_to, same}
 use Rattle.links.specs.Survey.{LinkOf}
@@ -7,7 +7,7 @@ use Rattle.links.specs.declared.Link.{Link}
 use Rattle.qubo.specs.Formula.{Bits, Formula}
 use Rattle.qubo.specs.Table.{coef}
 use Rattle.qubo.specs.Terms.{over, pair}
-use Rattle.arcs.specs.Arcs.{depths_end, arcs_end, Arc, arcs, depth_bit, arc_bit}
+use Rattle.arcs.specs.Arcs.{depths_end, arcs_end, Arc, arcs, depth_bit, arc_bit, depth_at}
 use Rattle.arcs.specs.declared.place.Place.{Place}
 use Rattle.arcs.specs.declared.place.Place.TheVariants.{OfDepth, OfArc, Behind}
 use Rattle.arcs.specs.declared.rows.End.{End}
@@ -76,6 +76,10 @@ pairs_at e q i N D v t ks = over ks (λ a. pair_at q i (arc_bit N D a t) (end_of
 unfoldable pub pairs_within : End → ℤ → ℕ → ℕ → ℕ → ℕ → ℕ → List Arc → Formula
 pairs_within e q i N D v t ks = cond (leb 1 t && leb t D) (pairs_at e q i N D v t ks) []
 
+-- where a walk of M links begins: the arc bits of those before are below bit i
+abbrev pub From : ℕ → ℕ → ℕ → ℕ → ℕ → Type 0
+From N D M i from = (from ≤ M) × ((k : ℕ) → k < from → arcs_end N D (k + 1) ≤ i)
+
 -- what is walked: a row that has the bits of M links' arcs
 pub record Walk (N D M i : ℕ) (row : List ℤ) : Type 0 where
   pub own : 1 ≤ length row
@@ -93,6 +97,10 @@ pub record Held (A N D : ℕ) (ks : List Arc) (v t i : ℕ) (q : ℤ) : Type 0 w
 -- how many bits of the two arcs of link k are set
 unfoldable pub link_set : ℕ → ℕ → List ℕ → ℕ → ℕ
 link_set N D x k = sum_to (2 * D) (λ t. get_or x (depths_end N D + 2 * k * D + pred t) 0)
+
+-- over the bits of arc q, from u to v: the bit times (2 - [u one less deep] - [v as deep])
+abbrev pub arc_miss : ℕ → ℕ → List ℕ → ℕ → ℕ → ℕ → ℕ
+arc_miss N D x q u v = sum_to D (λ i. get_or x (depths_end N D + q * D + pred i) 0 * (2 - (depth_at D x u (pred i) + depth_at D x v i)))
 
 -- in place k stands how many, for each of M links
 pub record Used (N D M : ℕ) (x used : List ℕ) : Type 0 where

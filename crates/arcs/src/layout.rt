@@ -13,7 +13,7 @@ pub struct Arcs<'a> {
     pub ghost shallow: { deepest ≤ 24 },
 }
 
-impl<'a> Arcs<'a> {
+impl Arcs<'_> {
     ghost use Rattle.arcs.specs.Inner.{IsPlace};
 
     /// How many depth bits each meter has.

@@ -7,6 +7,7 @@ pub enum Place {
         meter: usize,
         depth: usize,
     },
+    // Not the struct of an arc: the definitions' Arc has no depth, and places are matched by case.
     OfArc {
         number: usize,
         parent: usize,
@@ -14,5 +15,6 @@ pub enum Place {
         weight: u64,
         depth: usize,
     },
+    // A case of its own and no None: neighbour-count bits stand there.
     Behind,
 }

@@ -1,16 +1,18 @@
 // What depths and arcs add to row i, family by family. The place of bit i tells which terms of a family hold it: at most two walks over the links add them.
+// A stays a parameter of the rows: the layout and the sums of the same struct have no use of it.
+// A row, its number and what that bit is stay parameters: a struct with the `&mut` row is not covered by the check.
 ghost use Rattle.std.specs.Prelude.{ℕ, pred, ◌+◌, ◌*◌, ◌≤◌, ◌<◌, ◌^◌, ◌≡◌, List, [], ◌∷◌, length, get_or, pos, nat_abs};
 ghost use Rattle.links.specs.declared.Link.{Link};
 ghost use Rattle.qubo.specs.Rows.{add_terms, Room};
 ghost use Rattle.arcs.specs.Arcs.{arcs, depths_end, arcs_end};
 ghost use Rattle.arcs.specs.Formula.{root_term, depth_terms, entry_term, entry_terms, end_terms, weight_terms};
-ghost use Rattle.arcs.specs.Inner.{Row, IsPlace, weight_in, both_ends, pair_at, pairs_at, pairs_within, Walk, Held};
+ghost use Rattle.arcs.specs.Inner.{Row, IsPlace, weight_in, both_ends, pair_at, pairs_at, pairs_within, From, Walk, Held};
 
 use crate::{Arcs, Place};
 use links::Link;
 
-// An end of an arc.
-#[derive(Clone, Copy)]
+// An end of an arc. An enum and no closure: the definitions speak of it.
+#[derive(Clone, Copy, Debug, PartialEq, Eq)]
 enum End {
     Parent,
     Child,
@@ -26,7 +28,7 @@ fn both_ends(end: End, link: Link) -> (u8, u8)
     }
 }
 
-impl<'a> Arcs<'a> {
+impl Arcs<'_> {
     // Adds v times bit i times the bit of an arc at a depth to row i, if its end is the meter. Few arcs have it for an end: where the bit stands is computed for these alone.
     fn add_arc(
         &self,
@@ -58,9 +60,10 @@ impl<'a> Arcs<'a> {
         meter: usize,
         v: i64,
     )
-        requires { Walk self.now.survey.meters self.now.deepest (length self.now.survey.links.now) i row.old × (1 ≤ depth) × (depth ≤ self.now.deepest) × Room (2 ^ 61) (pairs_at end v i self.now.survey.meters self.now.deepest meter depth (arcs self.now.survey.links.now)) row.old × (from ≤ length self.now.survey.links.now) × ((k : ℕ) → k < from → arcs_end self.now.survey.meters self.now.deepest (k + 1) ≤ i) }
+        requires { Walk self.now.survey.meters self.now.deepest (length self.now.survey.links.now) i row.old × (1 ≤ depth) × (depth ≤ self.now.deepest) × Room (2 ^ 61) (pairs_at end v i self.now.survey.meters self.now.deepest meter depth (arcs self.now.survey.links.now)) row.old × From self.now.survey.meters self.now.deepest (length self.now.survey.links.now) i from }
         ensures { row.new ≡ add_terms (pairs_at end v i self.now.survey.meters self.now.deepest meter depth (arcs self.now.survey.links.now)) i row.old }
     {
+        // With an index: the number of a link that `enumerate` gives behind a skip takes a proof of its own.
         for k in from..self.survey.links.len() {
             let (there, back) = both_ends(end, self.survey.links[k]);
             self.add_arc(row, i, 2 * k, depth, there, meter, v);
@@ -120,11 +123,11 @@ impl<'a> Arcs<'a> {
         depth: usize,
         q: i64,
     )
-        requires { Row (2 ^ 59) self.now.survey.meters self.now.deepest penalty (length self.now.survey.links.now) i row.old × (1 ≤ meter) × (meter ≤ self.now.survey.meters) × (1 ≤ depth) × (depth ≤ self.now.deepest) × Held penalty self.now.survey.meters self.now.deepest (arcs self.now.survey.links.now) meter depth i q × (from ≤ length self.now.survey.links.now) × ((k : ℕ) → k < from → arcs_end self.now.survey.meters self.now.deepest (k + 1) ≤ i) }
+        requires { Row (2 ^ 59) self.now.survey.meters self.now.deepest penalty (length self.now.survey.links.now) i row.old × (1 ≤ meter) × (meter ≤ self.now.survey.meters) × (1 ≤ depth) × (depth ≤ self.now.deepest) × Held penalty self.now.survey.meters self.now.deepest (arcs self.now.survey.links.now) meter depth i q × From self.now.survey.meters self.now.deepest (length self.now.survey.links.now) i from }
         ensures { row.new ≡ add_terms (entry_term penalty self.now.survey.meters self.now.deepest (arcs self.now.survey.links.now) meter depth ∷ []) i row.old }
     {
-        let less = 0 - (penalty as i64);
-        let opposite = 0 - q;
+        let less = -(penalty as i64);
+        let opposite = -q;
         let own = self.depth_bit(meter, depth);
         qubo::add_single(row, i, i, less);
         qubo::add_pair(row, i, i, own, q);
@@ -139,7 +142,7 @@ impl<'a> Arcs<'a> {
         let twice = (2 * penalty) as i64;
         match place {
             Place::OfDepth { meter, depth } => {
-                if 0 < depth {
+                if depth > 0 {
                     self.add_entry(row, i, penalty, 0, meter, depth, twice);
                 }
             }
@@ -149,7 +152,7 @@ impl<'a> Arcs<'a> {
                 depth,
                 ..
             } => {
-                let less = 0 - twice;
+                let less = -twice;
                 self.add_entry(row, i, penalty, number / 2, child, depth, less);
             }
             Place::Behind => {}
@@ -161,7 +164,7 @@ impl<'a> Arcs<'a> {
         requires { IsPlace self.now.survey.meters self.now.deepest self.now.survey.links.now i place × Row (2 ^ 59) self.now.survey.meters self.now.deepest penalty (length self.now.survey.links.now) i row.old }
         ensures { row.new ≡ add_terms (end_terms penalty self.now.survey.meters self.now.deepest (arcs self.now.survey.links.now)) i row.old }
     {
-        let less = 0 - (penalty as i64);
+        let less = -(penalty as i64);
         match place {
             Place::OfDepth { meter, depth } => {
                 self.add_arcs_within(row, i, End::Parent, depth + 1, meter, less);
@@ -176,6 +179,7 @@ impl<'a> Arcs<'a> {
 }
 
 /// Adds the weight of every arc bit set to row i, whatever the links are among whose bits this is the place of bit i: an arc's bit has its arc's.
+// No method: so it asks for neither a survey nor a row that has room for the bits of one.
 pub fn add_weights(row: &mut [i64], i: usize, place: Place)
     requires { (1 ≤ length row.old) × ((k : ℕ) → nat_abs (get_or row.old k (pos 0)) ≤ 2 ^ 59) × (weight_in place ≤ 65535) }
     ensures { (N D : ℕ) (ls : List Link) → IsPlace N D ls i place → row.new ≡ add_terms (weight_terms N D (arcs ls)) i row.old }

@@ -4,16 +4,20 @@ ghost use Rattle.lists.specs.Sums.{sum_to, same, gap, nth};
 ghost use Rattle.qubo.specs.Formula.{Bits};
 ghost use Rattle.arcs.specs.Arcs.{arcs, depth_bit, depths_end, arcs_end, depth_at, arc_at};
 ghost use Rattle.arcs.specs.Sums.{root_miss, depth_misses, entries_of, entry_gaps, end_misses, arc_cost};
-ghost use Rattle.arcs.specs.Inner.{link_set, Used, LinkFits, LinkAdded};
+ghost use Rattle.arcs.specs.Inner.{link_set, arc_miss, Used, LinkFits, LinkAdded};
 
 use crate::Arcs;
 use links::Link;
+
+// 48 meters at 25 depths.
+const PLACES: usize = 1200;
 
 // Adds the bits of a part to as many counts, all in bytes, so that the loop compiles to wide byte operations.
 fn add_bits(counts: &mut [u8], part: &[u8])
     requires { (length part.now ≡ length counts.old) × Bits part.now × ((i : ℕ) → i < length counts.old → get_or counts.old i 0 < 255) }
     ensures { (length counts.new ≡ length counts.old) × ((i : ℕ) → i < length counts.old → get_or counts.new i 0 ≡ get_or counts.old i 0 + get_or part.now i 0) }
 {
+    // By index: what a zipped `iter_mut` wrote is not told to a proof.
     for (i, bit) in part.iter().enumerate() {
         counts[i] += *bit;
     }
@@ -25,9 +29,9 @@ fn part_gaps(part: &[u8], counts: &[u8]) -> u64
     ensures { (result ≡ sum_to (pred (length part.now)) (λ t. gap (get_or part.now t 0) (get_or counts.now t 0) * gap (get_or part.now t 0) (get_or counts.now t 0))) × (result ≤ 55296) }
 {
     let mut sum: u16 = 0;
-    for t in 1..part.len() {
-        let b = part[t] as u16;
-        let c = counts[t] as u16;
+    for (bit, count) in part[1..].iter().zip(&counts[1..]) {
+        let b = *bit as u16;
+        let c = *count as u16;
         sum += b + c * c - 2 * b * c;
     }
     sum as u64
@@ -39,6 +43,7 @@ fn part_misses(part: &[u8], above: &[u8], below: &[u8]) -> u64
     ensures { (result ≡ sum_to (length part.now) (λ i. nth part.now i * (2 - (nth above.now i + nth below.now i)))) × (result ≤ 48) }
 {
     let mut sum: u8 = 0;
+    // By index: three slices go by it, and nested pairs of a zip are no plainer.
     for (i, bit) in part.iter().enumerate() {
         let set = above[i] + below[i];
         sum += *bit * (2 - set);
@@ -46,7 +51,7 @@ fn part_misses(part: &[u8], above: &[u8], below: &[u8]) -> u64
     sum as u64
 }
 
-impl<'a> Arcs<'a> {
+impl Arcs<'_> {
     // How many bits of the two arcs of link k are set: they lie one behind the other.
     fn link_set(&self, bits: &[u8], k: usize) -> u8
         requires { (k < 256) × Bits bits.now × (arcs_end self.now.survey.meters self.now.deepest (k + 1) ≤ length bits.now) }
@@ -58,11 +63,13 @@ impl<'a> Arcs<'a> {
     }
 
     /// The same for every link, in its place. The sums over arcs are lent these counts, so that the bits are counted once; few links of a tree have any set, and the others are passed over.
+    // The counts are lent beside the bits: the sums read both, and a struct of both would be made twice.
     pub fn count_used(&self, bits: &[u8]) -> [u8; 256]
         requires { Bits bits.now × (arcs_end self.now.survey.meters self.now.deepest (length self.now.survey.links.now) ≤ length bits.now) }
         ensures { Used self.now.survey.meters self.now.deepest (length self.now.survey.links.now) bits.now result }
     {
         let mut used = [0; 256];
+        // By index: what a zipped `iter_mut` wrote is not told to a proof.
         for k in 0..self.survey.links.len() {
             used[k] = self.link_set(bits, k);
         }
@@ -75,8 +82,8 @@ impl<'a> Arcs<'a> {
         ensures { (result ≡ sum_to self.now.survey.meters (λ v. depth_at self.now.deepest bits.now v 0)) × (result ≤ 48) }
     {
         let mut sum = 0;
-        for v in 0..self.survey.meters {
-            sum += bits[self.depth_start(v + 1)] as usize;
+        for v in 1..=self.survey.meters {
+            sum += bits[self.depth_start(v)] as usize;
         }
         sum
     }
@@ -127,11 +134,12 @@ impl<'a> Arcs<'a> {
     }
 
     // The arcs into each meter at each depth, in one walk of the links. A meter has at most 47 links, so each count fits in a byte.
-    fn gather_entries(&self, bits: &[u8], used: &[u8]) -> [u8; 1200]
+    fn gather_entries(&self, bits: &[u8], used: &[u8]) -> [u8; PLACES]
         requires { Bits bits.now × (arcs_end self.now.survey.meters self.now.deepest (length self.now.survey.links.now) ≤ length bits.now) × Used self.now.survey.meters self.now.deepest (length self.now.survey.links.now) bits.now used.now }
         ensures { (length result ≡ 1200) × ((v t : ℕ) → 1 ≤ v → 1 ≤ t → t ≤ self.now.deepest → get_or result (depth_bit self.now.deepest v t) 0 ≡ entries_of (arcs self.now.survey.links.now) (arc_at self.now.survey.meters self.now.deepest bits.now) v t) }
     {
-        let mut counts = [0; 1200];
+        let mut counts = [0; PLACES];
+        // k numbers the link's arcs too, so used goes by it.
         for (k, link) in self.survey.links.iter().enumerate() {
             self.count_link(&mut counts, bits, k, *link, used[k]);
         }
@@ -144,8 +152,8 @@ impl<'a> Arcs<'a> {
         ensures { (result ≡ sum_to self.now.survey.meters (λ v. sum_to self.now.deepest (λ t. gap (depth_at self.now.deepest bits.now v t) (get_or counts.now (depth_bit self.now.deepest v t) 0) * gap (depth_at self.now.deepest bits.now v t) (get_or counts.now (depth_bit self.now.deepest v t) 0)))) × (result ≤ 2654208) }
     {
         let mut sum = 0;
-        for v in 0..self.survey.meters {
-            let first = self.depth_start(v + 1);
+        for v in 1..=self.survey.meters {
+            let first = self.depth_start(v);
             let end = first + self.depth_width();
             sum += part_gaps(&bits[first..end], &counts[first..end]);
         }
@@ -164,7 +172,7 @@ impl<'a> Arcs<'a> {
     // Over an arc's bits: the bit times (2 - [parent one less deep] - [child as deep]).
     fn arc_misses(&self, bits: &[u8], number: usize, parent: usize, child: usize) -> u64
         requires { (number < 512) × (1 ≤ parent) × (parent ≤ self.now.survey.meters) × (1 ≤ child) × (child ≤ self.now.survey.meters) × Bits bits.now × (depths_end self.now.survey.meters self.now.deepest + number * self.now.deepest + self.now.deepest ≤ length bits.now) }
-        ensures { (result ≡ sum_to self.now.deepest (λ i. get_or bits.now (depths_end self.now.survey.meters self.now.deepest + number * self.now.deepest + pred i) 0 * (2 - (depth_at self.now.deepest bits.now parent (pred i) + depth_at self.now.deepest bits.now child i)))) × (result ≤ 48) }
+        ensures { (result ≡ arc_miss self.now.survey.meters self.now.deepest bits.now number parent child) × (result ≤ 48) }
     {
         let start = self.arc_start(number);
         let above = self.depth_start(parent);
@@ -179,7 +187,7 @@ impl<'a> Arcs<'a> {
     // The same for both arcs of link k, of whose bits n are set.
     fn link_misses(&self, bits: &[u8], k: usize, link: Link, n: u8) -> u64
         requires { (k < 256) × (1 ≤ link.u) × (link.u ≤ self.now.survey.meters) × (1 ≤ link.v) × (link.v ≤ self.now.survey.meters) × Bits bits.now × (depths_end self.now.survey.meters self.now.deepest + (2 * k + 1) * self.now.deepest + self.now.deepest ≤ length bits.now) × (n ≡ link_set self.now.survey.meters self.now.deepest bits.now k) }
-        ensures { (result ≡ sum_to self.now.deepest (λ i. get_or bits.now (depths_end self.now.survey.meters self.now.deepest + 2 * k * self.now.deepest + pred i) 0 * (2 - (depth_at self.now.deepest bits.now link.u (pred i) + depth_at self.now.deepest bits.now link.v i))) + sum_to self.now.deepest (λ i. get_or bits.now (depths_end self.now.survey.meters self.now.deepest + (2 * k + 1) * self.now.deepest + pred i) 0 * (2 - (depth_at self.now.deepest bits.now link.v (pred i) + depth_at self.now.deepest bits.now link.u i)))) × (result ≤ 96) }
+        ensures { (result ≡ arc_miss self.now.survey.meters self.now.deepest bits.now (2 * k) link.u link.v + arc_miss self.now.survey.meters self.now.deepest bits.now (2 * k + 1) link.v link.u) × (result ≤ 96) }
     {
         if n == 0 {
             return 0;
@@ -195,6 +203,7 @@ impl<'a> Arcs<'a> {
         ensures { (result ≡ end_misses self.now.deepest (arcs self.now.survey.links.now) (depth_at self.now.deepest bits.now) (arc_at self.now.survey.meters self.now.deepest bits.now)) × (result ≤ 24576) }
     {
         let mut sum = 0;
+        // k numbers the link's arcs too, so used goes by it.
         for (k, link) in self.survey.links.iter().enumerate() {
             sum += self.link_misses(bits, k, *link, used[k]);
         }
@@ -207,9 +216,8 @@ impl<'a> Arcs<'a> {
         ensures { ((N D : ℕ) (x : List ℕ) → Used N D (length self.now.survey.links.now) x used.now → result ≡ arc_cost D (arcs self.now.survey.links.now) (arc_at N D x)) × (result ≤ 805294080) }
     {
         let mut sum = 0;
-        // With an index, not zipped: what the loop has left is then told by a number.
-        for (k, link) in self.survey.links.iter().enumerate() {
-            sum += (link.weight as u64) * (used[k] as u64);
+        for (link, n) in self.survey.links.iter().zip(used) {
+            sum += (link.weight as u64) * (*n as u64);
         }
         sum
     }

@@ -1,17 +1,14 @@
 -- The sums of link weights at the meters: gathered link by link, and none is great. Assumes nothing.
-use Prim.Native.Nat.{ℕ, suc, ◌+◌, ◌-◌, ◌≤◌, ◌<◌, max}
+use Prim.Native.Nat.{ℕ, zero, suc, ◌+◌, ◌-◌, ◌≤◌, ◌<◌, max}
 use mathlib.Core.Path.{◌≡◌, refl, sym, ap, ap₂, ◌∙◌}
-use mathlib.Core.Bool.{cond}
 use mathlib.Core.List.{List}
-use lib.ListN.{length, get_or, set, take, drop, length-set, length-take, length-drop}
-use lib.Seq.{get_or-take, get_or-drop}
+use lib.ListN.{length, get_or, set, take, drop, length-set, length-drop}
+use lib.Seq.{get_or-drop}
 use native.Mathlib.Omega.{arith}
 use native.Mathlib.Decide.{ℕ_discrete}
 use native.Mathlib.Numerals.{add-one}
-use native.Mathlib.Nat.{add_comm}
-use Rattle.std.proofs.Common.{Ordering, Less, Equal, Greater}
-use Rattle.std.specs.Ordering.{MatchOrdering, is_lt, nat_cmp, ord_max}
-use Rattle.std.specs.Cmp.{ranks}
+use Rattle.std.specs.List.{fold}
+use Rattle.std.proofs.lemmas.List.Sums.{fold_more}
 use Rattle.lists.specs.Sums.{greatest}
 use Rattle.lists.proofs.Sums.{greatest_eq, greatest_zero, greatest_next}
 use Rattle.lists.proofs.Stores.{added_here, added_elsewhere}
@@ -75,41 +72,27 @@ module _ (N : ℕ) (ls : List Link) (a : IsSurvey N ls) (k : ℕ) (h : k < lengt
           (summed_turn (load_of m) ls nothing k (get_or s m 0) (g.so_far m) h (load_of m (link_in ls k)) refl);
     }
 
--- ---- greatest_load: the greatest of the sums at places 1..m
+-- ---- greatest_load: the greatest of the sums of the meters
 
-pub top_of : List ℕ → ℕ → ℕ
-top_of sums m = greatest m (λ i. get_or sums i 0)
-
-pub top_start : (sums : List ℕ) → 0 ≡ top_of sums 0
-unfolding top_of
-top_start sums = sym (greatest_zero (λ i. get_or sums i 0))
-
--- the N sums that the loop goes through
+-- the sums of the N meters
 abbrev ones : List ℕ → ℕ → List ℕ
 ones sums N = take (N + 1 - 1) (drop 1 sums)
 
-ones_length : (sums : List ℕ) (N : ℕ) → N < length sums → length (ones sums N) ≡ N
-ones_length sums N h = rw (length-take, length-drop) (omega arith)
+-- the greatest of the first n of a list
+fold_top : (xs : List ℕ) (n : ℕ) → n ≤ length xs → fold (λ a x. max a x) 0 (take n xs) ≡ greatest n (λ i. get_or xs (i - 1) 0)
+fold_top xs zero h = sym (greatest_zero (λ i. get_or xs (i - 1) 0))
+fold_top xs (suc n) h =
+    let q : n ≡ suc n - 1 = omega arith in
+    ap (λ k. fold (λ a x. max a x) 0 (take k xs)) (sym (add-one n))
+    ∙ fold_more (λ a x. max a x) 0 xs n 0 (omega arith)
+    ∙ ap₂ max (fold_top xs n (omega arith)) (ap (λ t. get_or xs t 0) q)
+    ∙ sym (greatest_next n (λ i. get_or xs (i - 1) 0))
+    ∙ ap (λ k. greatest k (λ i. get_or xs (i - 1) 0)) (add-one n)
 
--- the greater of two as the library's `max` picks it
-max_is : (a b : ℕ) → ord_max nat_cmp a b ≡ max a b
-max_is a b = go (nat_cmp b a) (ranks b a)
-  where
-    go : (r : Ordering) → MatchOrdering r (b < a) (b ≡ a) (a < b) → cond (is_lt r) a b ≡ max a b
-    go Less h = omega arith
-    go Equal h = omega arith
-    go Greater h = omega arith
-
-module _ (sums : List ℕ) (top m : ℕ) (e : top ≡ top_of sums m) (N : ℕ) (fits : N < length sums) where
-  pub top_turn : m < length (ones sums N) → (next : ℕ) → next ≡ ord_max nat_cmp top (get_or (ones sums N) m 0) → next ≡ top_of sums (m + 1)
-  unfolding top_of
-  top_turn h next d =
-      let q : get_or (ones sums N) m 0 ≡ get_or sums (suc m) 0 = get_or-take (N + 1 - 1) (drop 1 sums) m 0 (omega (arith, ones_length sums N fits)) ∙ get_or-drop 1 sums m 0 ∙ ap (λ t. get_or sums t 0) (add_comm 1 m ∙ add-one m) in
-      d ∙ max_is top (get_or (ones sums N) m 0) ∙ ap₂ max e q ∙ sym (greatest_next m (λ i. get_or sums i 0))
-
-  pub top_end : m ≤ length (ones sums N) → length (ones sums N) ≤ m → top ≡ greatest N (λ i. get_or sums i 0)
-  unfolding top_of
-  top_end a b = let d : m ≡ N = omega (arith, ones_length sums N fits) in rw (← d) e
+pub top_is : (sums : List ℕ) (N : ℕ) → N < length sums → fold (λ a x. max a x) 0 (ones sums N) ≡ greatest N (λ i. get_or sums i 0)
+top_is sums N h =
+    let d : N + 1 - 1 ≡ N = omega arith in
+    rw d (fold_top (drop 1 sums) N (rw length-drop (omega arith)) ∙ greatest_eq N (λ i. get_or (drop 1 sums) (i - 1) 0) (λ i. get_or sums i 0) (λ k a b. get_or-drop 1 sums (k - 1) 0 ∙ ap (λ t. get_or sums t 0) (omega arith)))
 
 -- ---- own_penalty
 

@@ -51,7 +51,7 @@ module _ (n : ℕ) (x p : List ℕ) (m w : ℕ) (s t : List ℕ) (size : length 
     most,
   )
 
--- ---- heard_at: what meter m hears on each channel, link by link
+-- ---- quietest_at: what meter m hears on each channel, link by link
 
 -- what a link adds on channel i, where b says what a meter bears
 pub hears : (ℕ → ℕ → ℕ) → ℕ → ℕ → Link → ℕ
@@ -123,7 +123,7 @@ rest_none b m i xs (suc r) k e h =
     let t = h k (omega arith) (omega arith) in
     omega (arith, sum_next (hears b m i) xs nothing k (omega arith), hears_none b m i (link_in xs k) t.0 t.1, rest_none b m i xs r (k + 1) (omega arith) (λ j a c. h j (omega arith) c))
 
--- ---- the two loops of heard_at
+-- ---- its two loops
 
 -- the links of lower neighbours before k are done
 abbrev pub HeardLower : ℕ → List ℕ → List ℕ → List Link → ℕ → List Link → List Link → ℕ → List ℕ → Type 0
@@ -215,7 +215,7 @@ module _ (sums : List ℕ) where
   unfolding least_of
   least_end best i n e d = rw (← d) e
 
--- ---- quietest_at: the channel with the least of the sums
+-- ---- and the channel with the least of the sums
 
 pub quietest_is : (n : ℕ) (ls : List Link) (x p : List ℕ) (m : ℕ) (sum : ℕ → ℕ) (r : ℕ) → 1 ≤ n → ((i : ℕ) → 1 ≤ i → i ≤ n → sum i ≡ heard ls (bears n x p) m i) → r ≡ least_at n sum → r ≡ quietest n ls x p m
 unfolding quietest

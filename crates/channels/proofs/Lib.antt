@@ -11,3 +11,4 @@ pub mod Halves
 pub mod ClashRows
 pub mod Hearing
 pub mod Channel
+pub mod Chunks

@@ -5,7 +5,7 @@ ghost use Rattle.channels.specs.Formula.{load};
 
 use links::Survey;
 
-// The sum of link weights at each meter m, in place m of 256, since a meter's number is a byte.
+/// The sum of link weights at each meter m, in place m of 256, since a meter's number is a byte.
 pub fn loads_of(survey: &Survey) -> [u64; 256]
     ensures { (length result ≡ 256) × ((m : ℕ) → get_or result m 0 ≡ load survey.now.links.now m) }
 {
@@ -17,14 +17,10 @@ pub fn loads_of(survey: &Survey) -> [u64; 256]
     sums
 }
 
-// The greatest of the sums of the meters.
+/// The greatest of the sums of the meters.
 pub fn greatest_load(sums: &[u64], meters: usize) -> u64
     requires { meters < length sums.now }
     ensures { result ≡ greatest meters (λ m. get_or sums.now m 0) }
 {
-    let mut top = 0;
-    for sum in &sums[1..=meters] {
-        top = top.max(*sum);
-    }
-    top
+    sums[1..=meters].iter().copied().max().unwrap_or(0)
 }

@@ -8,8 +8,11 @@ use qubo::{Decoded, Problem};
 /// n channels for the meters of a survey, and the penalty A.
 #[derive(Clone, Copy)]
 pub struct Channels<'a> {
+    /// The meters and links that the table is made for.
     pub survey: Survey<'a>,
+    /// How many channels there are.
     pub n: usize,
+    /// A, which may have a margin on it.
     pub penalty: u64,
     pub ghost low: { 1 ≤ n },
     pub ghost high: { n ≤ 16 },
@@ -20,9 +23,10 @@ impl Channels<'_> {
     ghost use Rattle.std.specs.Prelude.{◌≡◌};
     ghost use Rattle.channels.specs.Formula.{within_limits, penalty};
 
-    /// The limits of n.
+    /// The least n,
     pub const MIN: u64 = 1;
 
+    /// and the greatest.
     pub const MAX: u64 = 16;
 
     /// Whether n is within the limits.
@@ -46,6 +50,7 @@ impl Problem for Channels<'_> {
 
     ghost instance = { λ c. instance c.penalty c.survey.meters c.n c.survey.links.now };
 
+    // As for groups: one-line bodies; a trait for them would be longer.
     fn bits(&self) -> usize {
         self.survey.meters * self.n
     }
@@ -68,11 +73,11 @@ impl Problem for Channels<'_> {
     }
 
     fn encode(&self, plan: &[u8], bits: &mut [u8]) -> bool {
-        let is_plan = onehot::are_choices(plan, self.survey.meters, self.n);
-        if is_plan {
-            onehot::encode(plan, self.survey.meters, self.n, bits);
+        if !onehot::are_choices(plan, self.survey.meters, self.n) {
+            return false;
         }
-        is_plan
+        onehot::encode(plan, self.survey.meters, self.n, bits);
+        true
     }
 
     /// Every assignment decodes to a plan.

@@ -7,11 +7,13 @@ use crate::Channels;
 use crate::repairing::Repairing;
 
 impl Channels<'_> {
-    // The plan of an assignment.
+    /// The plan of an assignment.
+    // Bits are lent beside the struct: it is made before they are known.
     pub(crate) fn repair_all(&self, bits: &[u8], plan: &mut [u8])
         requires { Assignment (self.now.survey.meters * self.now.n) bits.now × (length plan.old ≡ self.now.survey.meters) }
         ensures { plan.new ≡ decoded self.now.survey.meters self.now.n self.now.survey.links.now bits.now }
     {
+        // By index: each meter reads the part of the plan that is written by then.
         for v in 0..self.survey.meters {
             let so_far = Repairing {
                 channels: *self,
@@ -22,15 +24,16 @@ impl Channels<'_> {
         }
     }
 
-    // How many meters have not exactly one bit set.
+    /// How many meters have not exactly one bit set.
+    // Bits are lent beside the struct: it is made before they are known.
     pub(crate) fn repaired_count(&self, bits: &[u8]) -> u64
         requires { Assignment (self.now.survey.meters * self.now.n) bits.now }
         ensures { result ≡ repaired self.now.survey.meters self.now.n bits.now }
     {
         let mut count = 0;
-        for v in 0..self.survey.meters {
-            let start = v * self.n;
-            if onehot::set_count(&bits[start..start + self.n]) != 1 {
+        // A for and no chain: the callee asks something of its arguments, and a closure would have to ask it again.
+        for part in bits.chunks_exact(self.n) {
+            if onehot::set_count(part) != 1 {
                 count += 1;
             }
         }

@@ -6,7 +6,7 @@ ghost use Rattle.channels.specs.Formula.{clash_terms};
 use crate::Channels;
 
 impl Channels<'_> {
-    // Adds the clashes of the links to row i. In the row of a bit of meter m stand the pairs of the links from m to a higher meter, each at the same channel.
+    /// Adds the clashes of the links to row i. In the row of a bit of meter m stand the pairs of the links from m to a higher meter, each at the same channel.
     pub(crate) fn add_clashes(&self, row: &mut [i64], i: usize)
         requires by_index { (i + length row.old ≡ self.now.survey.meters * self.now.n) × (i < self.now.survey.meters * self.now.n) }
         requires room { Room (2 ^ 61) (clash_terms self.now.n self.now.survey.links.now) row.old }
@@ -14,6 +14,7 @@ impl Channels<'_> {
     {
         let m = i / self.n + 1;
         let (_, from_m) = self.survey.split_at_meter(m);
+        // `take_while` was tried, and the proof did not close: what the loop keeps is then said by the iterator's state, and no longer by a place among the links.
         for link in from_m {
             if link.u as usize != m {
                 break;

@@ -13,3 +13,4 @@ pub mod CutRows
 pub mod Counted
 pub mod SizesReady
 pub mod RowParts
+pub mod Chunks

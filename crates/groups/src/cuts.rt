@@ -9,11 +9,13 @@ use crate::Groups;
 use links::Survey;
 
 /// For each link and group, the weight if exactly one end is in it.
+// Bits are lent beside the struct: it is made before they are known.
 pub fn cutting(groups: &Groups, bits: &[u8]) -> u64
     requires { Assignment (bit_count groups.now.survey.meters groups.now.m) bits.now }
     ensures { (result ≡ cutting_of groups.now.m groups.now.survey.links.now (bit_at groups.now.m bits.now)) × (result ≤ 268431360) }
 {
     let mut sum = 0;
+    // A for and no chain: the callee asks something of its arguments, and a closure would have to ask it again.
     for link in groups.survey.links {
         let apart = onehot::unshared(bits, link.u, link.v, groups.m);
         sum += (link.weight as u64) * apart;

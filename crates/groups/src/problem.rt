@@ -8,8 +8,11 @@ use qubo::{Decoded, Problem};
 /// The meters of a survey in m equally large groups, and the penalty A.
 #[derive(Clone, Copy)]
 pub struct Groups<'a> {
+    /// The meters and links that the table is made for.
     pub survey: Survey<'a>,
+    /// How many groups there are.
     pub m: usize,
+    /// A, which may have a margin on it.
     pub penalty: u64,
     pub ghost low: { 1 ≤ m },
     pub ghost high: { m ≤ 16 },
@@ -21,9 +24,10 @@ impl Groups<'_> {
     ghost use Rattle.groups.specs.Formula.{within_limits, penalty};
     ghost use Rattle.groups.specs.Plans.{is_plan};
 
-    /// The limits of m.
+    /// The least m,
     pub const MIN: u64 = 2;
 
+    /// and the greatest.
     pub const MAX: u64 = 16;
 
     /// Whether m is within the limits.
@@ -56,6 +60,7 @@ impl Problem for Groups<'_> {
 
     ghost instance = { λ c. instance c.penalty c.survey.meters c.m c.survey.links.now };
 
+    // As for channels: one-line bodies; a trait for them would be longer.
     fn bits(&self) -> usize {
         self.survey.meters * self.m
     }
@@ -68,8 +73,8 @@ impl Problem for Groups<'_> {
     fn row_into(&self, i: usize, row: &mut [i64]) {
         qubo::clear(row);
         onehot::add_one_hots(row, i, self.m, self.penalty);
-        rows::add_sizes(self, i, row);
-        rows::add_cuts(self, i, row);
+        rows::add_sizes(self, row, i);
+        rows::add_cuts(self, row, i);
     }
 
     /// The energy by the formula itself.

@@ -8,7 +8,7 @@ use qubo::{Problem, Run};
 
 /// Adds A times the sum over pairs of groups of (size difference)² to row i. The group of bit i differs in size from m - 1 others:
 /// that gives A (m - 1) at bit i, and -2 A at each later bit, with 2 A m more at those of its own group.
-pub fn add_sizes(groups: &Groups, i: usize, row: &mut [i64])
+pub fn add_sizes(groups: &Groups, row: &mut [i64], i: usize)
     requires { (i < bit_count groups.now.survey.meters groups.now.m) × (i + length row.old ≡ bit_count groups.now.survey.meters groups.now.m) × ((k : ℕ) → nat_abs (get_or row.old k (pos 0)) ≤ 2 ^ 59) }
     ensures { row.new ≡ add_terms (size_terms groups.now.penalty groups.now.survey.meters groups.now.m) i row.old }
 {
@@ -24,7 +24,7 @@ pub fn add_sizes(groups: &Groups, i: usize, row: &mut [i64])
         count: groups.survey.meters - (i / m + 1),
     };
     let twice = 2 * groups.penalty;
-    let less = 0 - (twice as i64);
+    let less = -(twice as i64);
     let here = groups.penalty * ((m - 1) as u64);
     let more = twice * (m as u64);
     qubo::add_single(row, i, i, here as i64);
@@ -33,7 +33,7 @@ pub fn add_sizes(groups: &Groups, i: usize, row: &mut [i64])
 }
 
 /// Adds what the links cut to row i: those at the meter of bit i, each at the group of bit i. None from the first on whose lower end is above that meter has an end there.
-pub fn add_cuts(groups: &Groups, i: usize, row: &mut [i64])
+pub fn add_cuts(groups: &Groups, row: &mut [i64], i: usize)
     requires by_index { (i < bit_count groups.now.survey.meters groups.now.m) × (i + length row.old ≡ bit_count groups.now.survey.meters groups.now.m) }
     requires room { Room (2 ^ 61) (cut_terms groups.now.m groups.now.survey.links.now) row.old }
     ensures { row.new ≡ add_terms (cut_terms groups.now.m groups.now.survey.links.now) i row.old }
@@ -43,6 +43,7 @@ pub fn add_cuts(groups: &Groups, i: usize, row: &mut [i64])
     for link in groups.survey.links {
         let u = link.u as usize;
         let v = link.v as usize;
+        // An early return and no split: two loops would say no more.
         if meter < u {
             return;
         }

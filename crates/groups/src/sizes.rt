@@ -35,19 +35,20 @@ fn spread_of(sizes: &[u64], m: usize) -> u64
 }
 
 /// The sizes of the groups in an assignment, meter by meter.
+// Bits are lent beside the struct: it is made before they are known.
 fn gather_sizes(groups: &Groups, bits: &[u8]) -> [u64; 256]
     requires { Assignment (bit_count groups.now.survey.meters groups.now.m) bits.now }
     ensures { (length result ≡ 256) × ((g : ℕ) → 1 ≤ g → g ≤ groups.now.m → get_or result g 0 ≡ size_in groups.now.survey.meters (bit_at groups.now.m bits.now) g) }
 {
     let mut sizes = [0; 256];
-    for v in 0..groups.survey.meters {
-        let start = v * groups.m;
-        onehot::add_part(&mut sizes, &bits[start..start + groups.m], 1);
+    for part in bits.chunks_exact(groups.m) {
+        onehot::add_part(&mut sizes, part, 1);
     }
     sizes
 }
 
 /// What stands in the bracket: the sum over meters of (1 - bits set)² plus the sum over pairs of groups of (size difference)².
+// Bits are lent beside the struct: it is made before they are known.
 pub fn bracket_of(groups: &Groups, bits: &[u8]) -> u64
     requires { Assignment (bit_count groups.now.survey.meters groups.now.m) bits.now }
     ensures { (result ≡ bracket groups.now.survey.meters groups.now.m (bit_at groups.now.m bits.now)) × (result ≤ 658992) }

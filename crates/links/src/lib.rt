@@ -1,4 +1,5 @@
 // Links, and surveys of them: what the kinds know of a site. Definitions are in specs/, their laws in proofs/.
+// Widening casts stay `as` here and above: a proof reads a cast where it stands, and each `from` is a call more to rewrite.
 #![tactic(auto)]
 
 mod survey;

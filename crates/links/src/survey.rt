@@ -28,7 +28,7 @@ impl<'a> Survey<'a> {
     {
         let mut sum = 0;
         for link in self.links {
-            sum += u64::from(link.weight);
+            sum += link.weight as u64;
         }
         sum
     }

@@ -15,7 +15,9 @@ use plans::{Ask, Decoded, Refusal};
 #[repr(C)]
 #[derive(Clone, Copy, Debug, PartialEq, Eq)]
 pub struct MeterplanNumber {
+    /// 0 where there is a value.
     pub refusal: u64,
+    /// The number asked for.
     pub value: i64,
 }
 
@@ -23,12 +25,15 @@ pub struct MeterplanNumber {
 #[repr(C)]
 #[derive(Clone, Copy, Debug, PartialEq, Eq)]
 pub struct MeterplanDecoded {
+    /// 0 where there is a plan.
     pub refusal: u64,
+    /// The plan's weight.
     pub weight: u64,
+    /// How many meters were repaired.
     pub repaired: u64,
 }
 
-// The number of a refusal, 0 for none.
+// The number of a refusal, 0 for none. A function and no `impl`: to C the number is a `u64`, and neither that type nor `Result` is of this crate.
 fn refusal_of(answer: Result<(), Refusal>) -> u64
     ensures { result ≡ number_told answer }
 {
@@ -65,34 +70,36 @@ pub extern "C" fn meterplan_remove(image: &mut [u8], u: u64, v: u64) -> u64
     refusal_of(plans::remove(image, u, v))
 }
 
-// A value as a struct.
-fn number_of(answer: Result<i64, Refusal>) -> MeterplanNumber
-    ensures { (r : ℕ) (z : ℤ) → told answer ≡ answer_of r z → NumberIs result.refusal result.value r z }
-{
-    match answer {
-        Ok(value) => MeterplanNumber { refusal: 0, value },
-        Err(refusal) => MeterplanNumber {
-            refusal: refusal.number(),
-            value: 0,
-        },
+impl From<Result<i64, Refusal>> for MeterplanNumber {
+    ghost from_gives = { λ answer n. (r : ℕ) (z : ℤ) → told answer ≡ answer_of r z → NumberIs n.refusal n.value r z };
+
+    fn from(answer: Result<i64, Refusal>) -> MeterplanNumber {
+        match answer {
+            Ok(value) => MeterplanNumber { refusal: 0, value },
+            Err(refusal) => MeterplanNumber {
+                refusal: refusal.number(),
+                value: 0,
+            },
+        }
     }
 }
 
-// A decoded plan as a struct.
-fn decoded_of(answer: Result<Decoded, Refusal>) -> MeterplanDecoded
-    ensures { (r w k : ℕ) → told answer ≡ answer_of r (record { weight = w; repaired = k }) → DecodedIs result.refusal result.weight result.repaired r w k }
-{
-    match answer {
-        Ok(Decoded { weight, repaired }) => MeterplanDecoded {
-            refusal: 0,
-            weight,
-            repaired,
-        },
-        Err(refusal) => MeterplanDecoded {
-            refusal: refusal.number(),
-            weight: 0,
-            repaired: 0,
-        },
+impl From<Result<Decoded, Refusal>> for MeterplanDecoded {
+    ghost from_gives = { λ answer d. (r w k : ℕ) → told answer ≡ answer_of r (record { weight = w; repaired = k }) → DecodedIs d.refusal d.weight d.repaired r w k };
+
+    fn from(answer: Result<Decoded, Refusal>) -> MeterplanDecoded {
+        match answer {
+            Ok(Decoded { weight, repaired }) => MeterplanDecoded {
+                refusal: 0,
+                weight,
+                repaired,
+            },
+            Err(refusal) => MeterplanDecoded {
+                refusal: refusal.number(),
+                weight: 0,
+                repaired: 0,
+            },
+        }
     }
 }
 
@@ -102,7 +109,7 @@ pub extern "C" fn meterplan_bits(image: &[u8], ask: Ask) -> MeterplanNumber
     ensures lent { image.exit.now ≡ image.entry.now }
     ensures number { NumberIs result.refusal result.value (accept_number_in image.now ask) (pos (instance_in image.now ask).bits) }
 {
-    number_of(plans::bit_count(image, ask).map(|bits| bits as i64))
+    MeterplanNumber::from(plans::bit_count(image, ask).map(|bits| bits as i64))
 }
 
 /// The penalty A.
@@ -111,7 +118,7 @@ pub extern "C" fn meterplan_penalty(image: &[u8], ask: Ask) -> MeterplanNumber
     ensures lent { image.exit.now ≡ image.entry.now }
     ensures number { NumberIs result.refusal result.value (accept_number_in image.now ask) (pos (instance_in image.now ask).penalty) }
 {
-    number_of(plans::penalty(image, ask).map(|penalty| penalty as i64))
+    MeterplanNumber::from(plans::penalty(image, ask).map(|penalty| penalty as i64))
 }
 
 /// The constant of the table.
@@ -120,7 +127,7 @@ pub extern "C" fn meterplan_constant(image: &[u8], ask: Ask) -> MeterplanNumber
     ensures lent { image.exit.now ≡ image.entry.now }
     ensures number { NumberIs result.refusal result.value (accept_number_in image.now ask) (constant_of (instance_in image.now ask).formula) }
 {
-    number_of(plans::constant(image, ask))
+    MeterplanNumber::from(plans::constant(image, ask))
 }
 
 /// Row i in front of the lent slice: bits - i numbers; the rest is unaltered.
@@ -139,7 +146,7 @@ pub extern "C" fn meterplan_energy(image: &[u8], ask: Ask, bits: &[u8]) -> Meter
     ensures lent { (image.exit.now ≡ image.entry.now) × (bits.exit.now ≡ bits.entry.now) }
     ensures number { NumberIs result.refusal result.value (energy_number_in image.now ask bits.now) (energy_of (instance_in image.now ask) bits.now) }
 {
-    number_of(plans::energy(image, ask, bits))
+    MeterplanNumber::from(plans::energy(image, ask, bits))
 }
 
 /// The code of a plan, in the lent bits.
@@ -164,5 +171,5 @@ pub extern "C" fn meterplan_decode(
     ensures plan { plan.new ≡ decode_after_in image.now ask bits.now plan.old }
     ensures number { DecodedIs result.refusal result.weight result.repaired (decode_number_in image.now ask bits.now plan.old) ((instance_in image.now ask).weight ((instance_in image.now ask).decoded bits.now)) ((instance_in image.now ask).repaired bits.now) }
 {
-    decoded_of(plans::decode(image, ask, bits, plan))
+    MeterplanDecoded::from(plans::decode(image, ask, bits, plan))
 }

@@ -23,8 +23,9 @@ use Rattle.arcs.proofs.ArcLists.{arc_up, arc_back}
 use Rattle.arcs.proofs.ArcSums.{ArcsSummed, summed_start, summed_turn, summed_end}
 use Rattle.arcs.proofs.Slices.{slice, slice_length, slice_nth}
 use Rattle.arcs.proofs.LinkBits.{set_halves}
+use Rattle.arcs.proofs.Summing.{step_up}
 use Rattle.neighbours.specs.Formula.{count_at, touches_of, degree_gaps}
-use Rattle.neighbours.specs.Inner.{count_start}
+use Rattle.neighbours.specs.Inner.{count_start, gaps_from}
 
 -- ---- the neighbour-count bits by themselves, from b on
 
@@ -149,39 +150,43 @@ numbers_end part k sum e h = rw (← e) h
 
 -- ---- gaps_of: meter by meter
 
+meter_within : (d v N : ℕ) → 1 ≤ v → v ≤ N → pred v * d + d ≤ N * d
+meter_within d zero N h k = absurd (omega arith)
+meter_within d (suc m) N h k = part_within d m N k
+
 module _ (N D M d : ℕ) (sums x : List ℕ) where
   -- the squared gap of meter v
   abbrev gap_at : ℕ → ℕ
   gap_at v = gap (sum_to d (λ j. j * count_at N D M d x v j)) (get_or sums v 0) * gap (sum_to d (λ j. j * count_at N D M d x v j)) (get_or sums v 0)
 
-  -- those of the first v
+  -- those of the meters before v
   pub gaps_to : ℕ → ℕ
-  gaps_to v = sum_to v gap_at
+  gaps_to v = sum_to (pred v) gap_at
 
-  pub gaps_start : gaps_to 0 ≡ 0
+  pub gaps_start : gaps_to 1 ≡ 0
   unfolding gaps_to
   gaps_start = sum_to_zero _
 
-  pub gaps_end : (v sum : ℕ) → v ≡ N → sum ≡ gaps_to v → sum ≡ sum_to N (λ u. gap (sum_to d (λ j. j * count_at N D M d x u j)) (get_or sums u 0) * gap (sum_to d (λ j. j * count_at N D M d x u j)) (get_or sums u 0))
+  pub gaps_end : (v sum : ℕ) → v ≡ N + 1 → sum ≡ gaps_to v → sum ≡ gaps_from N D M d sums x
   unfolding gaps_to
-  gaps_end v sum e h = h ∙ ap (λ (k : ℕ). sum_to k gap_at) e
+  gaps_end v sum e h = rw (e, add-one N) at h
 
-  -- the bits of meter v + 1, from s on
-  module _ (asg : Assignment (arcs_end N D M + N * d) x) (v : ℕ) (below : v < N) (s : ℕ) (start : s ≡ count_start N D M d (v + 1)) where
+  -- the bits of meter v, from s on
+  module _ (asg : Assignment (arcs_end N D M + N * d) x) (v : ℕ) (low : 1 ≤ v) (high : v ≤ N) (s : ℕ) (start : s ≡ count_start N D M d v) where
     pub own_fits : s + d ≤ length x
-    own_fits = rw (start, add-one v) (omega (arith, asg.size, part_within d v N below))
+    own_fits = rw start (omega (arith, asg.size, meter_within d v N low high))
 
     own_length : length (slice x s (s + d)) ≡ d
     own_length = slice_length x s (s + d) d refl own_fits
 
-    own_counted : (c : ℕ) → c ≡ sum_to (length (slice x s (s + d))) (λ j. j * nth (slice x s (s + d)) j) → c ≡ sum_to d (λ j. j * count_at N D M d x (v + 1) j)
+    own_counted : (c : ℕ) → c ≡ sum_to (length (slice x s (s + d))) (λ j. j * nth (slice x s (s + d)) j) → c ≡ sum_to d (λ j. j * count_at N D M d x v j)
     unfolding count_at
     own_counted c e =
-        e ∙ rw own_length (sum_to_eq d _ (λ j. j * count_at N D M d x (v + 1) j) (λ j p q. ap (λ (t : ℕ). j * t) (slice_nth x s (s + d) d refl own_fits j p q ∙ rw start refl)))
+        e ∙ rw own_length (sum_to_eq d _ (λ j. j * count_at N D M d x v j) (λ j p q. ap (λ (t : ℕ). j * t) (slice_nth x s (s + d) d refl own_fits j p q ∙ rw start refl)))
 
-    pub gaps_next : (c r : ℕ) → c ≡ sum_to (length (slice x s (s + d))) (λ j. j * nth (slice x s (s + d)) j) → r ≡ gap c (get_or sums (v + 1) 0) * gap c (get_or sums (v + 1) 0) → gaps_to (v + 1) ≡ gaps_to v + r
+    pub gaps_next : (c r : ℕ) → c ≡ sum_to (length (slice x s (s + d))) (λ j. j * nth (slice x s (s + d)) j) → r ≡ gap c (get_or sums v 0) * gap c (get_or sums v 0) → gaps_to (v + 1) ≡ gaps_to v + r
     unfolding gaps_to
-    gaps_next c r e f = sum_to_next v gap_at ∙ rw (f, own_counted c e, add-one v) refl
+    gaps_next c r e f = step_up gap_at v low ∙ rw (f, own_counted c e) refl
 
 -- ---- degree_gaps: what is gathered
 

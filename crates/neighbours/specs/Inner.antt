@@ -1,5 +1,6 @@
 -- Only contracts between functions cite this: a reader of the public promises may skip it. The form of one meter's neighbours, part by part, and the row that its terms are added to. Assumes nothing.
 use Rattle.std.specs.Prelude.{ℕ, pred, ◌+◌, ◌*◌, ◌^◌, ◌≤◌, ◌≡◌, cond, List, [], ◌∷◌, ◌++◌, length, get_or, ℤ, pos, nat_abs}
+use Rattle.lists.specs.Sums.{sum_to, gap}
 use Rattle.links.specs.Links.{is_at}
 use Rattle.links.specs.declared.Link.{Link}
 use Rattle.qubo.specs.Formula.{Formula}
@@ -7,7 +8,7 @@ use Rattle.qubo.specs.Terms.{each, over, times}
 use Rattle.qubo.specs.Rows.{run_sum}
 use Rattle.qubo.specs.declared.Run.{Run}
 use Rattle.arcs.specs.Arcs.{Arc, arcs_end}
-use Rattle.neighbours.specs.Formula.{touching}
+use Rattle.neighbours.specs.Formula.{touching, count_at}
 
 -- ---- the form of a meter
 
@@ -47,3 +48,9 @@ pub record Roomy (q : ℤ) (i : ℕ) (row : List ℤ) : Type 0 where
   pub small : (k : ℕ) → nat_abs (get_or row k (pos 0)) ≤ 2 ^ 60
   pub factor : nat_abs q ≤ 2 ^ 32
   pub short : i + length row ≤ 2 ^ 32
+
+-- ---- sums in an assignment x
+
+-- the squared gaps of all meters, between the sum of j over a meter's bits set and what is counted in its place
+abbrev pub gaps_from : ℕ → ℕ → ℕ → ℕ → List ℕ → List ℕ → ℕ
+gaps_from N D M d sums x = sum_to N (λ v. gap (sum_to d (λ j. j * count_at N D M d x v j)) (get_or sums v 0) * gap (sum_to d (λ j. j * count_at N D M d x v j)) (get_or sums v 0))

@@ -13,11 +13,12 @@ use arcs::Arcs;
 #[derive(Clone, Copy)]
 pub struct Neighbours<'a> {
     pub arcs: Arcs<'a>,
+    // d may be 0 in the sums: only the rows need the bound, and a type would ask it of all.
     pub d: usize,
     pub ghost high: { d ≤ 47 },
 }
 
-impl<'a> Neighbours<'a> {
+impl Neighbours<'_> {
     /// Where the d neighbour-count bits of meter v start.
     pub fn count_start(&self, v: usize) -> usize
         requires { (1 ≤ v) × (v ≤ 49) }

@@ -1,6 +1,7 @@
 // The neighbours of each meter: what the squares of (sum of j over its neighbour-count bits set - all arc bits in or out of it) add to a row, and their sum in an assignment.
+// A, a row, its number and what that bit is stay parameters, as in the rows of arcs.
 ghost use Rattle.std.specs.Prelude.{ℕ, ◌+◌, ◌*◌, ◌^◌, ◌≤◌, ◌<◌, ◌≡◌, List, [], ◌∷◌, length, get_or, set, pos, nat_abs, ◌-ℤ◌, ◌*ℤ◌};
-ghost use Rattle.lists.specs.Sums.{sum_to, gap, nth};
+ghost use Rattle.lists.specs.Sums.{sum_to, nth};
 ghost use Rattle.links.specs.Links.{is_at};
 ghost use Rattle.qubo.specs.Formula.{Bits, Assignment};
 ghost use Rattle.qubo.specs.Table.{coef};
@@ -9,7 +10,7 @@ ghost use Rattle.qubo.specs.Rows.{add_terms, RunBelow, Room};
 ghost use Rattle.arcs.specs.Arcs.{arcs, arcs_end, arc_at};
 ghost use Rattle.arcs.specs.Inner.{IsPlace, Used};
 ghost use Rattle.neighbours.specs.Formula.{count_at, touching, degree_term, degree_terms, touches_of, degree_gaps};
-ghost use Rattle.neighbours.specs.Inner.{numbered, degree_entries, link_run, link_part, TableRow, Roomy};
+ghost use Rattle.neighbours.specs.Inner.{numbered, degree_entries, link_run, link_part, TableRow, Roomy, gaps_from};
 
 use crate::Neighbours;
 use arcs::Place;
@@ -21,6 +22,7 @@ fn add_numbered(row: &mut [i64], i: usize, start: usize, d: usize, q: i64)
     requires { (1 ≤ length row.old) × (d ≤ 47) × (start + d ≤ i + length row.old) × Roomy q i row.old }
     ensures { row.new ≡ add_terms (times q i (numbered d start) ∷ []) i row.old }
 {
+    // From 0: the bit goes by t, its number by t + 1.
     for t in 0..d {
         let j = (t + 1) as i64;
         qubo::add_pair(row, i, i, start + t, q * j);
@@ -40,7 +42,7 @@ fn own_of(penalty: u64, c: i64) -> i64
     requires { (penalty ≤ 20000000) × (nat_abs c ≤ 47) }
     ensures { result ≡ pos 0 -ℤ pos penalty *ℤ c *ℤ c }
 {
-    0 - penalty as i64 * c * c
+    -(penalty as i64 * c * c)
 }
 
 // Whether one of a link's two ends is the meter.
@@ -56,8 +58,8 @@ fn gather_touches(survey: &Survey, used: &[u8]) -> [u64; 256]
     ensures { (length result ≡ 256) × ((N D : ℕ) (x : List ℕ) → Used N D (length survey.now.links.now) x used.now → (m : ℕ) → get_or result m 0 ≡ touches_of D (arcs survey.now.links.now) (arc_at N D x) m) × ((m : ℕ) → get_or result m 0 ≤ 12288) }
 {
     let mut sums = [0; 256];
-    for (k, link) in survey.links.iter().enumerate() {
-        let both = used[k] as u64;
+    for (link, n) in survey.links.iter().zip(used) {
+        let both = *n as u64;
         sums[link.u as usize] += both;
         sums[link.v as usize] += both;
     }
@@ -76,7 +78,7 @@ fn numbers_set(part: &[u8]) -> u64
     sum
 }
 
-impl<'a> Neighbours<'a> {
+impl Neighbours<'_> {
     // The bits of the two arcs of link k.
     fn link_run(&self, k: usize) -> Run
         requires { k ≤ 256 }
@@ -104,7 +106,8 @@ impl<'a> Neighbours<'a> {
         requires { (arcs_end self.now.arcs.survey.meters self.now.arcs.deepest (length self.now.arcs.survey.links.now) ≤ i + length row.old) × Roomy q i row.old × (from ≤ length self.now.arcs.survey.links.now) × (arcs_end self.now.arcs.survey.meters self.now.arcs.deepest from ≤ i) }
         ensures { row.new ≡ add_terms (times q i (over (arcs self.now.arcs.survey.links.now) (touching self.now.arcs.survey.meters self.now.arcs.deepest meter)) ∷ []) i row.old }
     {
-        let less = 0 - q;
+        let less = -q;
+        // With an index: the number of a link that `enumerate` gives behind a skip takes a proof of its own.
         for k in from..self.arcs.survey.links.len() {
             self.add_link(row, i, self.arcs.survey.links[k], k, meter, less);
         }
@@ -153,13 +156,13 @@ impl<'a> Neighbours<'a> {
     // The sum over meters of the squared gaps between the sum of j over a meter's d bits set and what is counted in its place.
     fn gaps_of(&self, sums: &[u64], bits: &[u8]) -> u64
         requires { Assignment (arcs_end self.now.arcs.survey.meters self.now.arcs.deepest (length self.now.arcs.survey.links.now) + self.now.arcs.survey.meters * self.now.d) bits.now × (self.now.arcs.survey.meters < length sums.now) × ((m : ℕ) → get_or sums.now m 0 ≤ 12288) }
-        ensures { (result ≡ sum_to self.now.arcs.survey.meters (λ v. gap (sum_to self.now.d (λ j. j * count_at self.now.arcs.survey.meters self.now.arcs.deepest (length self.now.arcs.survey.links.now) self.now.d bits.now v j)) (get_or sums.now v 0) * gap (sum_to self.now.d (λ j. j * count_at self.now.arcs.survey.meters self.now.arcs.deepest (length self.now.arcs.survey.links.now) self.now.d bits.now v j)) (get_or sums.now v 0))) × (result ≤ 2 ^ 33) }
+        ensures { (result ≡ gaps_from self.now.arcs.survey.meters self.now.arcs.deepest (length self.now.arcs.survey.links.now) self.now.d sums.now bits.now) × (result ≤ 2 ^ 33) }
     {
         let mut sum = 0;
-        for v in 0..self.arcs.survey.meters {
-            let start = self.count_start(v + 1);
+        for v in 1..=self.arcs.survey.meters {
+            let start = self.count_start(v);
             let counted = numbers_set(&bits[start..start + self.d]);
-            sum += onehot::gap_squared(counted, sums[v + 1]);
+            sum += onehot::gap_squared(counted, sums[v]);
         }
         sum
     }

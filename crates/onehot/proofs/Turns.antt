@@ -14,9 +14,8 @@ use borrow.Author.Tests.{eq-eqb, ne_eqb}
 use Rattle.std.specs.Int.{abs_diff}
 use Rattle.std.specs.List.{list_all}
 use Rattle.lists.specs.Tests.{all}
-use Rattle.lists.specs.Sums.{sum_to, same, differ, gap, nth}
-use Rattle.lists.proofs.Sums.{sum_to_next, sum_to_eq, same_yes, same_no, differ_yes, differ_no, nth_suc}
-use Rattle.qubo.specs.Formula.{Bits}
+use Rattle.lists.specs.Sums.{sum_to, same, gap, nth}
+use Rattle.lists.proofs.Sums.{sum_to_next, sum_to_eq, same_yes, same_no, nth_suc}
 use Rattle.onehot.specs.Choices.{bit_at, set_at, miss_squared, misses, are_choices, code}
 use Rattle.onehot.proofs.Codes.{choices_are, code_length, code_at}
 use Rattle.onehot.proofs.Parts.{part_within, part_of, part_length, part_at}
@@ -27,42 +26,18 @@ use Rattle.onehot.proofs.Parts.{part_within, part_of, part_length, part_at}
 pub bit_bit : (x y : ℕ) → x ≤ 1 → y ≤ 1 → x * y ≤ 1
 bit_bit x y a b = mul-le-mul a b
 
--- whether both of two parts have their bit for choice i set
-unfoldable pub both_set : List ℕ → List ℕ → ℕ → ℕ
-both_set part other i = nth part i * nth other i
+-- what f gives at the entries of two parts for choice i
+unfoldable pub pair_at : (ℕ → ℕ → ℕ) → List ℕ → List ℕ → ℕ → ℕ
+pair_at f part other i = f (nth part i) (nth other i)
 
-both_next : (part other : List ℕ) (i : ℕ) → sum_to (i + 1) (both_set part other) ≡ sum_to i (both_set part other) + get_or part i 0 * get_or other i 0
-unfolding both_set
-both_next part other i = rw (sum_to_next i (both_set part other), nth_suc part i, nth_suc other i) refl
+-- the entries x and y at index i, counted from 0
+pub pair_next : (f : ℕ → ℕ → ℕ) (part other : List ℕ) (i : ℕ) → sum_to (i + 1) (pair_at f part other) ≡ sum_to i (pair_at f part other) + f (get_or part i 0) (get_or other i 0)
+unfolding pair_at
+pair_next f part other i = rw (sum_to_next i (pair_at f part other), nth_suc part i, nth_suc other i) refl
 
--- the bits x and y at index i, counted from 0
-pub both_turn : (part other : List ℕ) (i x y : ℕ) → Bits part → Bits other → x ≡ get_or part i 0 → y ≡ get_or other i 0 → (x * y ≤ 1) × (sum_to (i + 1) (both_set part other) ≡ sum_to i (both_set part other) + x * y)
-both_turn part other i x y a b d e = rw (d, e) (bit_bit (get_or part i 0) (get_or other i 0) (a i) (b i), both_next part other i)
-
-pub both_are : (part other : List ℕ) (i n s : ℕ) → i ≡ n → s ≡ sum_to i (both_set part other) → s ≡ sum_to n (λ j. nth part j * nth other j)
-unfolding both_set
-both_are part other i n s e h = rw (← e) h
-
--- whether two parts differ at choice i
-unfoldable pub differ_at : List ℕ → List ℕ → ℕ → ℕ
-differ_at part other i = differ (nth part i) (nth other i)
-
-module _ (part other : List ℕ) (i : ℕ) where
-  -- the bits x and y at index i, counted from 0
-  module _ (x y : ℕ) (d : x ≡ get_or part i 0) (e : y ≡ get_or other i 0) where
-    apart_next : sum_to (i + 1) (differ_at part other) ≡ sum_to i (differ_at part other) + differ x y
-    unfolding differ_at
-    apart_next = rw (d, e, sum_to_next i (differ_at part other), nth_suc part i, nth_suc other i) refl
-
-    pub apart_more : (x ≡ y → ⊥) → sum_to (i + 1) (differ_at part other) ≡ sum_to i (differ_at part other) + 1
-    apart_more h = omega (arith, apart_next, differ_yes x y h)
-
-    pub apart_same : x ≡ y → sum_to (i + 1) (differ_at part other) ≡ sum_to i (differ_at part other)
-    apart_same h = omega (arith, apart_next, differ_no x y h)
-
-  pub apart_are : (n s : ℕ) → i ≡ n → s ≡ sum_to i (differ_at part other) → s ≡ sum_to n (λ j. differ (nth part j) (nth other j))
-  unfolding differ_at
-  apart_are n s e h = rw (← e) h
+pub pair_are : (f : ℕ → ℕ → ℕ) (part other : List ℕ) (i n s : ℕ) → i ≡ n → s ≡ sum_to i (pair_at f part other) → s ≡ sum_to n (λ j. f (nth part j) (nth other j))
+unfolding pair_at
+pair_are f part other i n s e h = rw (← e) h
 
 -- ---- the parts of meters
 

@@ -37,16 +37,18 @@ fn part_of(bits: &[u8], m: u8, n: usize) -> &[u8]
     &bits[start..start + n]
 }
 
-// On how many choices two parts both have their bit set. There are at most 16, so a byte holds the sum, and sums of bytes are quick.
-fn overlap(part: &[u8], other: &[u8]) -> u64
-    requires { (length other.now ≡ length part.now) × (length part.now ≤ 16) × Bits part.now × Bits other.now }
-    ensures { result ≡ sum_to (length part.now) (λ i. nth part.now i * nth other.now i) }
+// The sum of what f gives at each pair of two parts, at most 1. There are at most 16, so a byte holds the sum, and sums of bytes are quick.
+fn pair_sum<F: Fn(u8, u8) -> u8>(part: &[u8], other: &[u8], f: F) -> u64
+    requires length { (length other.now ≡ length part.now) × (length part.now ≤ 16) }
+    requires calls { (i : ℕ) → i < length part.now → F.pre f (get_or part.now i 0) (get_or other.now i 0) }
+    requires small { (i r : ℕ) → i < length part.now → F.post f (get_or part.now i 0) (get_or other.now i 0) r → r ≤ 1 }
+    ensures { (g : ℕ → ℕ → ℕ) → ((i r : ℕ) → i < length part.now → F.post f (get_or part.now i 0) (get_or other.now i 0) r → r ≡ g (get_or part.now i 0) (get_or other.now i 0)) → result ≡ sum_to (length part.now) (λ i. g (nth part.now i) (nth other.now i)) }
 {
-    let mut both: u8 = 0;
+    let mut sum: u8 = 0;
     for (bit, other_bit) in part.iter().zip(other) {
-        both += *bit * *other_bit;
+        sum += f(*bit, *other_bit);
     }
-    both as u64
+    sum as u64
 }
 
 /// On how many choices the meters u and v both have their bit set.
@@ -54,21 +56,11 @@ pub fn shared(bits: &[u8], u: u8, v: u8, n: usize) -> u64
     requires { (1 ≤ u) × (1 ≤ v) × (u * n ≤ length bits.now) × (v * n ≤ length bits.now) × (n ≤ 16) × Bits bits.now }
     ensures { result ≡ sum_to n (λ i. bit_at n bits.now u i * bit_at n bits.now v i) }
 {
-    overlap(part_of(bits, u, n), part_of(bits, v, n))
-}
-
-// On how many choices exactly one of two parts has its bit set, counted in a byte likewise.
-fn apart(part: &[u8], other: &[u8]) -> u64
-    requires { (length other.now ≡ length part.now) × (length part.now ≤ 16) }
-    ensures { result ≡ sum_to (length part.now) (λ i. differ (nth part.now i) (nth other.now i)) }
-{
-    let mut count: u8 = 0;
-    for (bit, other_bit) in part.iter().zip(other) {
-        if *bit != *other_bit {
-            count += 1;
-        }
-    }
-    count as u64
+    pair_sum(
+        part_of(bits, u, n),
+        part_of(bits, v, n),
+        |bit, other| bit * other,
+    )
 }
 
 /// On how many choices exactly one of the meters u and v has its bit set.
@@ -76,7 +68,11 @@ pub fn unshared(bits: &[u8], u: u8, v: u8, n: usize) -> u64
     requires { (1 ≤ u) × (1 ≤ v) × (u * n ≤ length bits.now) × (v * n ≤ length bits.now) × (n ≤ 16) }
     ensures { result ≡ sum_to n (λ i. differ (bit_at n bits.now u i) (bit_at n bits.now v i)) }
 {
-    apart(part_of(bits, u, n), part_of(bits, v, n))
+    pair_sum(
+        part_of(bits, u, n),
+        part_of(bits, v, n),
+        |bit, other| (bit != other) as u8,
+    )
 }
 
 /// Adds w to the sum of each choice that is set in a part, which stand in the places 1, 2, ..
@@ -84,6 +80,7 @@ pub fn add_part(sums: &mut [u64], part: &[u8], w: u64)
     requires { (length part.now < length sums.old) × (w ≤ 65535) × Bits part.now × ((i : ℕ) → 1 ≤ i → i ≤ length part.now → get_or sums.old i 0 < 4294967296) }
     ensures { (length sums.new ≡ length sums.old) × ((i : ℕ) → 1 ≤ i → i ≤ length part.now → get_or sums.new i 0 ≡ get_or sums.old i 0 + w * nth part.now i) × ((i : ℕ) → get_or sums.new i 0 ≤ get_or sums.old i 0 + w) }
 {
+    // By index: a zipped `iter_mut` was tried, and what it wrote is not told to a proof.
     for (i, bit) in part.iter().enumerate() {
         sums[i + 1] += w * (*bit as u64);
     }
@@ -128,10 +125,12 @@ pub fn are_choices(plan: &[u8], meters: usize, n: usize) -> bool
     plan.len() == meters
         && plan
             .iter()
-            .all(|choice| 1 <= *choice && (*choice as usize) <= n)
+            .all(|choice| (1..=n).contains(&(*choice as usize)))
 }
 
 /// The lowest choice set at each meter, 0 where none is.
+// A byte of a plan holds no Option: 0 is no choice.
+// `meters` stands beside the plan, whose length it is known to be: the bits are cut by it.
 pub fn read_off(bits: &[u8], meters: usize, n: usize, plan: &mut [u8])
     requires { (meters ≤ 48) × (n ≤ 16) × (length bits.now ≡ meters * n) × (length plan.old ≡ meters) }
     ensures { plan.new ≡ candidate meters n bits.now }
@@ -145,6 +144,7 @@ pub fn read_off(bits: &[u8], meters: usize, n: usize, plan: &mut [u8])
 }
 
 /// Makes all bits 0.
+// The clause speaks of each entry, as its callers need.
 pub fn clear_bits(bits: &mut [u8])
     ensures { (length bits.new ≡ length bits.old) × ((k : ℕ) → get_or bits.new k 0 ≡ 0) }
 {
@@ -152,6 +152,7 @@ pub fn clear_bits(bits: &mut [u8])
 }
 
 /// The code of a plan; the choice 0 sets no bit of its meter.
+// 0 and no Option, and `meters` beside the plan, as in `read_off`.
 pub fn encode(plan: &[u8], meters: usize, n: usize, bits: &mut [u8])
     requires { (length plan.now ≡ meters) × ((v : ℕ) → v < meters → get_or plan.now v 0 ≤ n) × (length bits.old ≡ meters * n) }
     ensures { bits.new ≡ code n plan.now }
@@ -186,7 +187,7 @@ pub fn count_choices(plan: &[u8]) -> [u64; 256]
 {
     let mut counts = [0; 256];
     for choice in plan {
-        counts[(*choice as usize)] += 1;
+        counts[*choice as usize] += 1;
     }
     counts
 }

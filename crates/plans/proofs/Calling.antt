@@ -1,7 +1,7 @@
 -- The calls of src/lib.rt: what they give where an earlier test refuses, and what the later tests and the kind's own crate decide once image and ask are accepted. Assumes nothing.
 use Prim.Native.Nat.{ℕ, zero, suc, ◌-◌, ◌<◌}
 use mathlib.Core.Bool.{Bool, true, false, not, cond}
-use mathlib.Core.Path.{◌≡◌, refl, sym, ap, ◌∙◌, subst}
+use mathlib.Core.Path.{◌≡◌, refl, sym, ap, ◌∙◌}
 use mathlib.Core.List.{List, [], ◌∷◌, ◌++◌}
 use lib.IntN.{ℤ}
 use lib.Dec.{eqb}
@@ -14,9 +14,9 @@ use Rattle.qubo.specs.Instance.{Instance, energy_of}
 use Rattle.qubo.specs.Decoding.{row_filled, code_after, answer_of, plan_after}
 use Rattle.qubo.specs.declared.problem.Decoded.{Decoded}
 use Rattle.qubo.proofs.RowAction.{row_length}
-use Rattle.std.specs.Prelude.{Option, Some, None, Result, Ok, Err, MatchResult, ◌≤◌}
+use Rattle.std.specs.Prelude.{Option, Some, None, Result, Ok, Err, MatchResult, IsErrAnd, ◌≤◌}
 use Rattle.std.specs.Result.{result_unwrap_or}
-use Rattle.qubo.specs.Formula.{Assignment}
+use Rattle.std.proofs.lemmas.Result.{err_from_is_err_and}
 use Rattle.std.specs.Option.{ok_or}
 use Rattle.site.specs.Refusal.{refusal, unless_refused, number_of}
 use Rattle.site.proofs.Calls.{number_above}
@@ -32,6 +32,13 @@ use Rattle.plans.specs.Kinds.{kind_of, penalty_asked, instance_of}
 use Rattle.plans.proofs.ByKind.{penalty_is, asked_small, most_small}
 use Rattle.plans.proofs.Posed.{good_survey, good_margin, good_count}
 use Rattle.plans.proofs.Earlier.{Numbered, Alike, Stops, alike_none, stops_some, image_numbered}
+
+-- ---- the exit of a `?`, which hands on the refusal that it is given
+
+pub exit_is : {T : Type 0} {e : Refusal} (r : Result T Refusal) → IsErrAnd r (λ f. f ≡ e) → r ≡ Err e
+exit_is r h =
+    let q = err_from_is_err_and r h in
+    q.1 ∙ ap Err q.2
 
 -- ---- answers in 01's number and values
 
@@ -85,16 +92,6 @@ module _ (s : List ℕ) (a : Ask) where
     unfolding accept_number_in instance_of
     penalty_below p f = omega (arith, f, ap (λ (J : Instance). J.penalty) e, penalty_is (penalty_asked (site_in s) a) (site_in s) (kind_of a), asked_small (site_in s) (good_survey s a z) a (good_margin s a z), most_small (kind_of a))
 
-  -- where no test of image and ask applies, it is as if they were not there
-  pub accepted_alike : accept_number_in s a ≡ 0 → Alike (image_tests s a) []
-  unfolding accept_number_in
-  accepted_alike z = alike_none (image_tests s a) (image_numbered s a) z
-
-  -- where one applies, they refuse
-  pub stopped : (e : Refusal) → number_of e ≡ accept_number_in s a → Stops (image_tests s a) (number_of e)
-  unfolding accept_number_in
-  stopped e f = stops_some (image_tests s a) _ (sym f) (number_above e)
-
 -- ---- what is promised of the other calls
 
 -- row i in a slice that held out: the refusal's number, the length of the row, and what the slice holds then
@@ -137,23 +134,27 @@ module _ (s : List ℕ) (a : Ask) (r : ℕ) (n : r ≡ 0 → ⊥) where
   unfolding decode_answer_in decode_after_in
   decode_refused x q e = rw e (answer_refused r _ n, sym (kept r _ q n))
 
--- by an earlier test
-module _ (s : List ℕ) (a : Ask) (r : ℕ) (h : Stops (image_tests s a) r) where
-  pub row_stops : (i : ℕ) (out : List ℤ) → RowDone s a i out r 0 out
+-- by a test of image and ask: what posing gives
+module _ (s : List ℕ) (a : Ask) (e : Refusal) (f : number_of e ≡ accept_number_in s a) where
+  stopped : Stops (image_tests s a) (number_of e)
+  unfolding accept_number_in
+  stopped = stops_some (image_tests s a) _ (sym f) (number_above e)
+
+  pub row_stops : (i : ℕ) (out : List ℤ) → RowDone s a i out (number_of e) 0 out
   unfolding row_number_in
-  row_stops i out = row_refused s a r h.refused i out (h.by _)
+  row_stops i out = row_refused s a _ (number_above e) i out (stopped.by _)
 
-  pub energy_stops : (x : List ℕ) → EnergyDone s a x (Refused r)
+  pub energy_stops : (x : List ℕ) → EnergyDone s a x (Refused (number_of e))
   unfolding energy_number_in
-  energy_stops x = energy_refused s a r h.refused x (h.by _)
+  energy_stops x = energy_refused s a _ (number_above e) x (stopped.by _)
 
-  pub code_stops : (q x : List ℕ) → CodeDone s a q x r x
+  pub code_stops : (q x : List ℕ) → CodeDone s a q x (number_of e) x
   unfolding code_number_in
-  code_stops q x = code_refused s a r h.refused q x (h.by _)
+  code_stops q x = code_refused s a _ (number_above e) q x (stopped.by _)
 
-  pub decode_stops : (x q : List ℕ) → DecodeDone s a x q (Refused r) q
+  pub decode_stops : (x q : List ℕ) → DecodeDone s a x q (Refused (number_of e)) q
   unfolding decode_number_in
-  decode_stops x q = decode_refused s a r h.refused x q (h.by _)
+  decode_stops x q = decode_refused s a _ (number_above e) x q (stopped.by _)
 
 -- ---- the tests that the code makes first have numbers
 
@@ -165,70 +166,76 @@ bytes_numbered : (b n : ℕ) (x : List ℕ) (k : ℕ) → Numbered (decode_bytes
 unfolding decode_bytes
 bytes_numbered b n x k = (omega arith, (omega arith, tt))
 
--- ---- image and ask are accepted: b is the bit count and N the number of bytes of a plan that the code has in hand, and J its instance
+-- ---- image and ask are accepted: what posing gives, of a problem whose instance is J
 
-module _ (s : List ℕ) (a : Ask) (alike : Alike (image_tests s a) []) (b : ℕ) (e : b ≡ (instance_in s a).bits) where
+module _ (s : List ℕ) (a : Ask) where
   abbrev I : Instance
   I = instance_in s a
 
-  -- ---- rows
+  module _ {J : Instance} (posed : (accept_number_in s a ≡ 0) × (J ≡ instance_in s a)) where
+    -- it is as if the tests of image and ask were not there
+    alike : Alike (image_tests s a) []
+    unfolding accept_number_in
+    alike = alike_none (image_tests s a) (image_numbered s a) posed.0
 
-  module _ (i r : ℕ) (out : List ℤ) (h : r ≡ refusal (row_tests b i (length out))) where
-    pub row_number : row_number_in s a i (length out) ≡ r
-    unfolding row_number_in
-    row_number = alike _ ∙ sym (h ∙ ap (λ (c : ℕ). refusal (row_tests c i (length out))) e)
+    -- ---- rows
 
-    pub row_tested : (r ≡ 0 → ⊥) → RowDone s a i out r 0 out
-    row_tested n = row_refused s a r n i out row_number
+    module _ {b : ℕ} (count : b ≡ J.bits) (i : ℕ) (out : List ℤ) {r : ℕ} (h : r ≡ refusal (row_tests b i (length out))) where
+      e : b ≡ I.bits
+      e = count ∙ ap (λ (K : Instance). K.bits) posed.1
 
-    pub row_given : r ≡ 0 → (J : Instance) → J ≡ I → (then : List ℤ) → then ≡ row_filled J i out → RowDone s a i out 0 (b - i) then
-    unfolding row_part_in row_after_in
-    row_given z J f then p =
-        let g : row_number_in s a i (length out) ≡ 0 = row_number ∙ z in
-        let part = done (row_number_in s a i (length out)) (row_of I.formula I.bits i) [] g in
-        let size : b - i ≡ length (row_of I.formula I.bits i) = ap (λ (c : ℕ). c - i) e ∙ sym (row_length I.formula I.bits i) in
-        ((sym g, size ∙ sym (ap length part)), p ∙ ap (λ (K : Instance). row_filled K i out) f ∙ sym (done (row_number_in s a i (length out)) _ out g))
+      pub row_number : row_number_in s a i (length out) ≡ r
+      unfolding row_number_in
+      row_number = alike _ ∙ sym (h ∙ ap (λ (c : ℕ). refusal (row_tests c i (length out))) e)
 
-  -- ---- energies
+      pub row_tested : (r ≡ 0 → ⊥) → RowDone s a i out r 0 out
+      row_tested n = row_refused s a r n i out row_number
 
-  module _ (x : List ℕ) (r : ℕ) (h : r ≡ refusal (energy_tests b x)) where
-    energy_number : energy_number_in s a x ≡ r
-    unfolding energy_number_in
-    energy_number = alike _ ∙ sym (h ∙ ap (λ (c : ℕ). refusal (energy_tests c x)) e)
+      pub row_given : r ≡ 0 → {then : List ℤ} → then ≡ row_filled J i out → RowDone s a i out 0 (b - i) then
+      unfolding row_part_in row_after_in
+      row_given z p =
+          let g : row_number_in s a i (length out) ≡ 0 = row_number ∙ z in
+          let part = done (row_number_in s a i (length out)) (row_of I.formula I.bits i) [] g in
+          let size : b - i ≡ length (row_of I.formula I.bits i) = ap (λ (c : ℕ). c - i) e ∙ sym (row_length I.formula I.bits i) in
+          ((sym g, size ∙ sym (ap length part)), p ∙ ap (λ (K : Instance). row_filled K i out) posed.1 ∙ sym (done (row_number_in s a i (length out)) _ out g))
 
-    pub energy_tested : (r ≡ 0 → ⊥) → EnergyDone s a x (Refused r)
-    energy_tested n = energy_refused s a r n x energy_number
+    -- ---- energies
 
-    pub energy_given : r ≡ 0 → (J : Instance) → J ≡ I → (z : ℤ) → z ≡ energy_of J x → EnergyDone s a x (Value z)
-    unfolding energy_answer_in
-    energy_given q J f z g = value_told _ _ _ (energy_number ∙ q) (g ∙ ap (λ (K : Instance). energy_of K x) f)
+    module _ (x : List ℕ) {r : ℕ} (h : r ≡ refusal (energy_tests J.bits x)) where
+      energy_number : energy_number_in s a x ≡ r
+      unfolding energy_number_in
+      energy_number = alike _ ∙ sym (h ∙ ap (λ (K : Instance). refusal (energy_tests K.bits x)) posed.1)
 
-  -- ---- plans of N bytes
+      pub energy_tested : (r ≡ 0 → ⊥) → EnergyDone s a x (Refused r)
+      energy_tested n = energy_refused s a r n x energy_number
 
-  module _ (N : ℕ) (f : N ≡ I.plan_bytes) where
+      pub energy_given : r ≡ 0 → {z : ℤ} → z ≡ energy_of J x → EnergyDone s a x (Value z)
+      unfolding energy_answer_in
+      energy_given q g = value_told _ _ _ (energy_number ∙ q) (g ∙ ap (λ (K : Instance). energy_of K x) posed.1)
+
     -- ---- codes
 
-    module _ (q x : List ℕ) (r : ℕ) (h : r ≡ refusal (code_lengths b N (length q) (length x))) where
+    module _ (q x : List ℕ) {r : ℕ} (h : r ≡ refusal (code_lengths J.bits J.plan_bytes (length q) (length x))) where
       -- the first test decides, and then the plan
-      code_first : refusal (code_tests I q x) ≡ refusal (code_lengths b N (length q) (length x) ++ ((12, not (I.is_plan q)) ∷ []))
+      code_first : refusal (code_tests I q x) ≡ refusal (code_lengths J.bits J.plan_bytes (length q) (length x) ++ ((12, not (I.is_plan q)) ∷ []))
       unfolding code_tests code_lengths
-      code_first = rw (e, f) refl
+      code_first = rw posed.1 refl
 
       pub code_tested : (r ≡ 0 → ⊥) → CodeDone s a q x r x
       unfolding code_number_in
       code_tested n = code_refused s a r n q x (alike _ ∙ code_first ∙ (stops_some _ r (sym h) n).by _)
 
-      module _ (z : r ≡ 0) (J : Instance) (g : J ≡ I) (t : Bool) (is : t ≡ J.is_plan q) (then : List ℕ) (by : then ≡ code_after J q x) where
+      module _ (z : r ≡ 0) {t : Bool} (is : t ≡ J.is_plan q) {then : List ℕ} (by : then ≡ code_after J q x) where
         code_number : code_number_in s a q x ≡ refusal ((12, not (I.is_plan q)) ∷ [])
         unfolding code_number_in
-        code_number = alike _ ∙ code_first ∙ alike_none (code_lengths b N (length q) (length x)) (lengths_numbered b N (length q) (length x)) (sym h ∙ z) _
+        code_number = alike _ ∙ code_first ∙ alike_none (code_lengths J.bits J.plan_bytes (length q) (length x)) (lengths_numbered J.bits J.plan_bytes (length q) (length x)) (sym h ∙ z) _
 
         is_plan_fact : t ≡ I.is_plan q
-        is_plan_fact = is ∙ ap (λ (K : Instance). K.is_plan q) g
+        is_plan_fact = is ∙ ap (λ (K : Instance). K.is_plan q) posed.1
 
         is_coded : then ≡ cond t (I.code_of q) x
         unfolding code_after
-        is_coded = by ∙ rw (g, is_plan_fact) refl
+        is_coded = by ∙ rw (posed.1, is_plan_fact) refl
 
         pub code_no_plan : not t ≡ true → CodeDone s a q x 12 then
         code_no_plan u =
@@ -243,11 +250,11 @@ module _ (s : List ℕ) (a : Ask) (alike : Alike (image_tests s a) []) (b : ℕ)
 
     -- ---- decoding
 
-    module _ (x q : List ℕ) (r : ℕ) (h : r ≡ refusal (decode_bytes b N x (length q))) where
+    module _ (x q : List ℕ) {r : ℕ} (h : r ≡ refusal (decode_bytes J.bits J.plan_bytes x (length q))) where
       -- the first tests decide, and then the bits
-      decode_first : refusal (decode_tests I x q) ≡ refusal (decode_bytes b N x (length q) ++ ((12, not (I.decodes x)) ∷ []))
+      decode_first : refusal (decode_tests I x q) ≡ refusal (decode_bytes J.bits J.plan_bytes x (length q) ++ ((12, not (I.decodes x)) ∷ []))
       unfolding decode_tests decode_bytes
-      decode_first = rw (e, f) refl
+      decode_first = rw posed.1 refl
 
       pub decode_tested : (r ≡ 0 → ⊥) → DecodeDone s a x q (Refused r) q
       unfolding decode_number_in
@@ -256,7 +263,7 @@ module _ (s : List ℕ) (a : Ask) (alike : Alike (image_tests s a) []) (b : ℕ)
       module _ (z : r ≡ 0) where
         decode_number : decode_number_in s a x q ≡ refusal ((12, not (I.decodes x)) ∷ [])
         unfolding decode_number_in
-        decode_number = alike _ ∙ decode_first ∙ alike_none (decode_bytes b N x (length q)) (bytes_numbered b N x (length q)) (sym h ∙ z) _
+        decode_number = alike _ ∙ decode_first ∙ alike_none (decode_bytes J.bits J.plan_bytes x (length q)) (bytes_numbered J.bits J.plan_bytes x (length q)) (sym h ∙ z) _
 
         decode_go : (v : Bool) → I.decodes x ≡ v → DecodeDone s a x q (cond v (Plan (I.weight (I.decoded x)) (I.repaired x)) (Refused 12)) (cond v (I.decoded x) q)
         unfolding decode_answer_in decode_after_in
@@ -270,20 +277,9 @@ module _ (s : List ℕ) (a : Ask) (alike : Alike (image_tests s a) []) (b : ℕ)
         decode_said true h = h
         decode_said false h = h
 
-        pub decode_given : (J : Instance) → J ≡ I → (d : Option Decoded) (then : List ℕ) → d ≡ answer_of J x → then ≡ plan_after J x q → DecodeDone s a x q (told (ok_or d NoPlan)) then
+        pub decode_given : {d : Option Decoded} {then : List ℕ} → d ≡ answer_of J x → then ≡ plan_after J x q → DecodeDone s a x q (told (ok_or d NoPlan)) then
         unfolding answer_of plan_after
-        decode_given J g d then p t = rw (p, t, g) (decode_said (I.decodes x) (decode_go (I.decodes x) refl))
-
--- ---- what the code has in hand of a problem's instance
-
-pub bits_in : {I J : Instance} → I ≡ J → (b : ℕ) → b ≡ I.bits → b ≡ J.bits
-bits_in e b f = f ∙ ap (λ (K : Instance). K.bits) e
-
-pub bytes_in : {I J : Instance} → I ≡ J → (n : ℕ) → n ≡ I.plan_bytes → n ≡ J.plan_bytes
-bytes_in e n f = f ∙ ap (λ (K : Instance). K.plan_bytes) e
-
-pub assignment_in : {b c : ℕ} {x : List ℕ} → b ≡ c → Assignment b x → Assignment c x
-assignment_in {b} {c} {x} e h = subst (λ (n : ℕ). Assignment n x) e h
+        decode_given p t = rw (p, t, posed.1) (decode_said (I.decodes x) (decode_go (I.decodes x) refl))
 
 -- ---- the row comes back as the front part of the slice
 

@@ -8,12 +8,16 @@ use lib.Dec.{eqb, leb}
 use native.Mathlib.Omega.{arith}
 use native.Mathlib.Decide.{dec_le}
 use borrow.Author.Count.{below_more}
-use Rattle.std.specs.Prelude.{max}
+use Rattle.std.specs.Prelude.{max, Option, Some, None, Result, MatchOption, MatchResult}
+use Rattle.std.specs.Bool.{then_some}
+use Rattle.std.specs.Option.{ok_or}
 use borrow.Author.Tests.{le-leb, lt-leb, leb-true, leb-false, lt-ltb, le-ltb, ltb-false, eq-eqb, ne_eqb, eqb-true, not-false}
 use Rattle.lists.specs.Tests.{all}
 use Rattle.lists.proofs.Tests.{and_left, and_right, and_both, or_right}
 use Rattle.qubo.specs.Formula.{Bits, Assignment}
-use Rattle.site.specs.Refusal.{refusal}
+use Rattle.site.specs.Refusal.{refusal, number_of}
+use Rattle.site.specs.declared.refusals.Refusal.{Refusal}
+use Rattle.site.specs.declared.refusals.Refusal.TheVariants as refusals
 use Rattle.site.proofs.Refused.{refusal_here, refusal_next, refusal_last, refusal_none}
 use Rattle.plans.specs.declared.Ask.{Ask}
 use Rattle.plans.specs.declared.Kind.{Kind}
@@ -52,9 +56,20 @@ module _ (N : ℕ) (a : Ask) where
   unfolding bad_kind
   kind_tells k e h f g = rw (le-leb 1 a.kind h.0, le-leb a.kind 3 h.1, ← e, ← f, g)
 
+  pub kind_given : (k : Kind) (t : Bool) → k ≡ kind_of a → (1 ≤ a.kind) × (a.kind ≤ 3) → t ≡ limits_hold N k
+      → MatchOption (then_some t k) (bad_kind N a ≡ true) (λ l. (bad_kind N a ≡ false) × (l ≡ kind_of a))
+  kind_given k true e h f = (kind_tells k e h f refl, e)
+  kind_given k false e h f = kind_tells k e h f refl
+
   pub ask_bad : bad_kind N a ≡ true → 7 ≡ refusal (ask_tests N a)
   unfolding ask_tests
   ask_bad e = sym (refusal_here 7 _ _ e)
+
+  -- and what `ok_or` makes of that
+  pub kind_asked : (o : Option Kind) → MatchOption o (bad_kind N a ≡ true) (λ k. (bad_kind N a ≡ false) × (k ≡ kind_of a))
+      → (x : Result Kind Refusal) → x ≡ ok_or o refusals.Kind → MatchResult x (λ k. (bad_kind N a ≡ false) × (k ≡ kind_of a)) (λ r. number_of r ≡ refusal (ask_tests N a))
+  kind_asked None h x e = rw e (ask_bad h)
+  kind_asked (Some k) h x e = rw e h
 
   pub ask_wide : bad_kind N a ≡ false → most_margin < a.margin → 18 ≡ refusal (ask_tests N a)
   unfolding ask_tests

@@ -9,6 +9,7 @@ use groups::Groups;
 use tree::Tree;
 
 // Whether the kind's limits hold.
+// The limits are of any 64 bits, as they are lent, and a kind's struct counts in usize: where they meet it is a cast.
 fn allows(kind: Kind, meters: usize) -> bool
     ensures { result ≡ limits_hold meters kind }
 {
@@ -30,9 +31,5 @@ pub(crate) fn kind_of(ask: Ask, meters: usize) -> Option<Kind>
         3 => Kind::Tree(parameter),
         _ => return None,
     };
-    if allows(kind, meters) {
-        Some(kind)
-    } else {
-        None
-    }
+    allows(kind, meters).then_some(kind)
 }

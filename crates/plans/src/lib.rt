@@ -1,7 +1,9 @@
 // The public calls: the image of a site and what is asked of it in; table, energies, codes and plans out. None asks anything of its caller: each gives its result, or the first refusal that applies and then alters nothing lent to it.
 // The contracts state all of that but for one thing: what `row` leaves in the slice that it is lent, outside the part that it returns. No contract can speak of that; `trials` and `surveys` compare it.
+// Two lines in each call pose the problem: one function that is lent a closure was tried, and what a call that is refused before the closure runs leaves of the bytes that the closure holds was not proved.
+// Image and ask are two arguments in each call, as the header has them.
 // What each call gives is defined in specs/Calls.antt; the three demands are stated in proofs/Demands.antt.
-// The rooms: the calls here; posing.rt reads the image and poses the problem, for all of them; refusals.rt has the tests; kinds.rt and problem.rt every `match` on the kind.
+// The files: the calls here, but for those that edit an image, which are those of `site`; posing.rt reads the image and poses the problem, for all of them; refusals.rt has the tests; kinds.rt and problem.rt every `match` on the kind.
 #![tactic(auto)]
 
 mod kinds;
@@ -11,22 +13,29 @@ mod refusals;
 
 ghost use Rattle.std.specs.Prelude.{◌≡◌, ◌≤◌, ◌<◌, ◌^◌, length, IfOk, MatchResult};
 ghost use Rattle.site.specs.Refusal.{number_of, number_told};
-ghost use Rattle.site.specs.Edits.{begin_refusal, begin_image, add_refusal, add_image, remove_refusal, remove_image};
 ghost use Rattle.plans.specs.Answers.{told};
 ghost use Rattle.plans.specs.Refusals.{most_bits};
 ghost use Rattle.plans.specs.Calls.{bits_answer_in, penalty_answer_in, constant_answer_in, row_number_in, row_part_in, row_after_in, energy_answer_in, code_number_in, code_after_in, decode_answer_in, decode_after_in};
 
+use links::Link;
 pub use qubo::Decoded;
 use qubo::Problem;
-pub use site::Refusal;
+// `begin` is refused by 1 or 7, `add` by 1, 2, 3, 4 or 6, `remove` by 1, 2 or 5; their contracts are in site/src/lib.rt.
+pub use site::{Refusal, add, begin, remove};
+
+// The places that the links of an image are read into.
+const NO_LINKS: [Link; 256] = [site::NO_LINK; 256];
 
 /// What a caller asks for: the number of a kind, its parameter, and a margin that is added to A.
 // C passes it by value, so the kind is a number here.
 #[repr(C)]
 #[derive(Clone, Copy, Debug, PartialEq, Eq)]
 pub struct Ask {
+    /// 1 channels, 2 groups, 3 tree.
     pub kind: u64,
+    /// n, m or d.
     pub parameter: u64,
+    /// What is added to A.
     pub margin: u64,
 }
 
@@ -41,37 +50,13 @@ pub enum Kind {
     Tree(usize),
 }
 
-/// Makes the image a new one of that many meters, with no links. Refused by 1 or 7.
-pub fn begin(image: &mut [u8], meters: u64) -> Result<(), Refusal>
-    ensures value { number_told result ≡ begin_refusal image.old meters }
-    ensures image_after { image.new ≡ begin_image image.old meters }
-{
-    site::begin(image, meters)
-}
-
-/// Adds the link between u and v, either way round. Refused by 1, 2, 3, 4 or 6.
-pub fn add(image: &mut [u8], u: u64, v: u64, weight: u16) -> Result<(), Refusal>
-    ensures value { number_told result ≡ add_refusal image.old u v weight }
-    ensures image_after { image.new ≡ add_image image.old u v weight }
-{
-    site::add(image, u, v, weight)
-}
-
-/// Removes the link between u and v, either way round. Refused by 1, 2 or 5.
-pub fn remove(image: &mut [u8], u: u64, v: u64) -> Result<(), Refusal>
-    ensures value { number_told result ≡ remove_refusal image.old u v }
-    ensures image_after { image.new ≡ remove_image image.old u v }
-{
-    site::remove(image, u, v)
-}
-
 /// The number of bits. Refused by 1, 7, 18 or 8.
 pub fn bit_count(image: &[u8], ask: Ask) -> Result<usize, Refusal>
     ensures lent { image.exit.now ≡ image.entry.now }
     ensures answer { told result ≡ bits_answer_in image.now ask }
     ensures few { IfOk result (λ b. b ≤ most_bits) }
 {
-    let mut links = [site::NO_LINK; 256];
+    let mut links = NO_LINKS;
     let posed = posing::pose(image, ask, &mut links)?;
     Ok(posed.bits())
 }
@@ -82,7 +67,7 @@ pub fn penalty(image: &[u8], ask: Ask) -> Result<u64, Refusal>
     ensures answer { told result ≡ penalty_answer_in image.now ask }
     ensures small { IfOk result (λ p. p < 2 ^ 33) }
 {
-    let mut links = [site::NO_LINK; 256];
+    let mut links = NO_LINKS;
     let posed = posing::pose(image, ask, &mut links)?;
     Ok(posed.penalty())
 }
@@ -92,7 +77,7 @@ pub fn constant(image: &[u8], ask: Ask) -> Result<i64, Refusal>
     ensures lent { image.exit.now ≡ image.entry.now }
     ensures answer { told result ≡ constant_answer_in image.now ask }
 {
-    let mut links = [site::NO_LINK; 256];
+    let mut links = NO_LINKS;
     let posed = posing::pose(image, ask, &mut links)?;
     Ok(posed.constant())
 }
@@ -102,7 +87,7 @@ fn fill(image: &[u8], ask: Ask, i: u64, out: &mut [i64]) -> Result<usize, Refusa
     ensures number { MatchResult result (λ len. (row_number_in image.now ask i (length out.old) ≡ 0) × (len ≡ length (row_part_in image.now ask i (length out.old)))) (λ r. number_of r ≡ row_number_in image.now ask i (length out.old)) }
     ensures row { out.new ≡ row_after_in image.now ask i out.old }
 {
-    let mut links = [site::NO_LINK; 256];
+    let mut links = NO_LINKS;
     let posed = posing::pose(image, ask, &mut links)?;
     let bits = posed.bits();
     refusals::of_row(bits, i, out.len())?;
@@ -128,7 +113,7 @@ pub fn row_refusal(image: &[u8], ask: Ask, i: u64, out: &[i64]) -> Result<(), Re
     ensures lent { (image.exit.now ≡ image.entry.now) × (out.exit.now ≡ out.entry.now) }
     ensures value { number_told result ≡ row_number_in image.now ask i (length out.now) }
 {
-    let mut links = [site::NO_LINK; 256];
+    let mut links = NO_LINKS;
     let posed = posing::pose(image, ask, &mut links)?;
     refusals::of_row(posed.bits(), i, out.len())
 }
@@ -148,9 +133,9 @@ pub fn energy(image: &[u8], ask: Ask, bits: &[u8]) -> Result<i64, Refusal>
     ensures lent { (image.exit.now ≡ image.entry.now) × (bits.exit.now ≡ bits.entry.now) }
     ensures answer { told result ≡ energy_answer_in image.now ask bits.now }
 {
-    let mut links = [site::NO_LINK; 256];
+    let mut links = NO_LINKS;
     let posed = posing::pose(image, ask, &mut links)?;
-    refusals::of_energy(posed.bits(), bits)?;
+    refusals::of_energy(&posed, bits)?;
     Ok(posed.energy(bits))
 }
 
@@ -160,9 +145,9 @@ pub fn encode(image: &[u8], ask: Ask, plan: &[u8], bits: &mut [u8]) -> Result<()
     ensures number { number_told result ≡ code_number_in image.now ask plan.now bits.old }
     ensures bits { bits.new ≡ code_after_in image.now ask plan.now bits.old }
 {
-    let mut links = [site::NO_LINK; 256];
+    let mut links = NO_LINKS;
     let posed = posing::pose(image, ask, &mut links)?;
-    refusals::of_lengths(posed.bits(), posed.plan_bytes(), plan.len(), bits.len())?;
+    refusals::of_lengths(&posed, plan.len(), bits.len())?;
     if !posed.encode(plan, bits) {
         return Err(Refusal::NoPlan);
     }
@@ -175,8 +160,8 @@ pub fn decode(image: &[u8], ask: Ask, bits: &[u8], plan: &mut [u8]) -> Result<De
     ensures answer { told result ≡ decode_answer_in image.now ask bits.now plan.old }
     ensures plan { plan.new ≡ decode_after_in image.now ask bits.now plan.old }
 {
-    let mut links = [site::NO_LINK; 256];
+    let mut links = NO_LINKS;
     let posed = posing::pose(image, ask, &mut links)?;
-    refusals::of_decoding(posed.bits(), posed.plan_bytes(), bits, plan.len())?;
+    refusals::of_decoding(&posed, bits, plan.len())?;
     posed.decode(bits, plan).ok_or(Refusal::NoPlan)
 }

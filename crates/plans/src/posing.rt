@@ -10,6 +10,7 @@ use links::{Link, Survey};
 use qubo::Problem;
 
 /// The problem that an image and what is asked pose, its links in the front places of the lent array.
+// The array is lent, as there is no heap: what is posed holds the links as a slice of the caller's places.
 pub(crate) fn pose<'a>(
     image: &[u8],
     ask: Ask,

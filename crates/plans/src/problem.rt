@@ -1,4 +1,5 @@
 // The problem of whichever kind: one `match` each, whose arms call that kind's own crate.
+// One match each and no dyn: all kinds are known here, and the gate refuses a function that makes a dyn value and hands it out.
 use crate::Kind;
 use channels::Channels;
 use groups::Groups;
@@ -9,8 +10,11 @@ use tree::Tree;
 /// What an accepted image and what is asked of it pose.
 #[derive(Clone, Copy)]
 pub enum Posed<'a> {
+    /// Channels: n is in the struct.
     Channels(Channels<'a>),
+    /// Groups: m is in the struct.
     Groups(Groups<'a>),
+    /// A tree: d is in the struct.
     Tree(Tree<'a>),
 }
 

@@ -3,9 +3,11 @@ ghost use Rattle.std.specs.Prelude.{◌≡◌, MatchResult};
 ghost use Rattle.site.specs.Refusal.{refusal, number_of, number_told};
 ghost use Rattle.plans.specs.Kinds.{kind_of};
 ghost use Rattle.plans.specs.Refusals.{are_bits, ask_tests, count_tests, row_tests, energy_tests};
-ghost use Rattle.plans.specs.Inner.{code_lengths, decode_bytes};
+ghost use Rattle.plans.specs.Inner.{instance_for, code_lengths, decode_bytes};
 
+use crate::problem::Posed;
 use crate::{Ask, Kind, Refusal, kinds};
+use qubo::Problem;
 
 // The most bits that a table may have.
 const MOST_BITS: usize = 8192;
@@ -17,9 +19,7 @@ const MOST_MARGIN: u64 = 1000000;
 pub(crate) fn of_ask(ask: Ask, meters: usize) -> Result<Kind, Refusal>
     ensures { MatchResult result (λ k. (refusal (ask_tests meters ask) ≡ 0) × (k ≡ kind_of ask)) (λ r. number_of r ≡ refusal (ask_tests meters ask)) }
 {
-    let Some(kind) = kinds::kind_of(ask, meters) else {
-        return Err(Refusal::Kind);
-    };
+    let kind = kinds::kind_of(ask, meters).ok_or(Refusal::Kind)?;
     if MOST_MARGIN < ask.margin {
         return Err(Refusal::Margin);
     }
@@ -50,7 +50,7 @@ pub(crate) fn of_row(bits: usize, i: u64, room: usize) -> Result<(), Refusal>
     Ok(())
 }
 
-// Whether each lent byte is 0 or 1: whether the greatest is. The loop goes through all of them, many bytes at a time.
+// Whether each lent byte is 0 or 1: whether the greatest is. The loop goes through all of them, many bytes at a time: measured quicker than `all`.
 fn are_bits(bits: &[u8]) -> bool
     ensures { result ≡ are_bits bits.now }
 {
@@ -61,11 +61,11 @@ fn are_bits(bits: &[u8]) -> bool
     top <= 1
 }
 
-/// The energy of lent bits, of which so many are needed: 9, 11.
-pub(crate) fn of_energy(needed: usize, bits: &[u8]) -> Result<(), Refusal>
-    ensures { number_told result ≡ refusal (energy_tests needed bits.now) }
+/// The energy of lent bits: 9, 11.
+pub(crate) fn of_energy(posed: &Posed, bits: &[u8]) -> Result<(), Refusal>
+    ensures { number_told result ≡ refusal (energy_tests (instance_for posed.now).bits bits.now) }
 {
-    if bits.len() != needed {
+    if bits.len() != posed.bits() {
         return Err(Refusal::Length);
     }
     if !are_bits(bits) {
@@ -75,31 +75,21 @@ pub(crate) fn of_energy(needed: usize, bits: &[u8]) -> Result<(), Refusal>
 }
 
 /// A plan of that length to be coded into so many lent bits: 9. Whether it is a plan is seen when it is coded.
-pub(crate) fn of_lengths(
-    needed: usize,
-    plan_bytes: usize,
-    plan: usize,
-    bits: usize,
-) -> Result<(), Refusal>
-    ensures { number_told result ≡ refusal (code_lengths needed plan_bytes plan bits) }
+pub(crate) fn of_lengths(posed: &Posed, plan: usize, bits: usize) -> Result<(), Refusal>
+    ensures { number_told result ≡ refusal (code_lengths (instance_for posed.now).bits (instance_for posed.now).plan_bytes plan bits) }
 {
-    if plan != plan_bytes || bits != needed {
+    if plan != posed.plan_bytes() || bits != posed.bits() {
         return Err(Refusal::Length);
     }
     Ok(())
 }
 
 /// Lent bits to be decoded into a lent plan of that length: 9, 11. Whether they code a plan is seen when they are decoded.
-pub(crate) fn of_decoding(
-    needed: usize,
-    plan_bytes: usize,
-    bits: &[u8],
-    plan: usize,
-) -> Result<(), Refusal>
-    ensures { number_told result ≡ refusal (decode_bytes needed plan_bytes bits.now plan) }
+pub(crate) fn of_decoding(posed: &Posed, bits: &[u8], plan: usize) -> Result<(), Refusal>
+    ensures { number_told result ≡ refusal (decode_bytes (instance_for posed.now).bits (instance_for posed.now).plan_bytes bits.now plan) }
 {
-    if plan != plan_bytes {
+    if plan != posed.plan_bytes() {
         return Err(Refusal::Length);
     }
-    of_energy(needed, bits)
+    of_energy(posed, bits)
 }

@@ -19,6 +19,7 @@ pub struct Patient<'a, C, S> {
 }
 
 impl<'a, C: Clock, S> Patient<'a, C, S> {
+    /// The stream, with the clock by which it waits.
     pub fn new(clock: &'a C, stream: S) -> Patient<'a, C, S> {
         Patient { clock, stream }
     }
@@ -40,6 +41,7 @@ fn timed_out() -> Error {
     Error::from(ErrorKind::TimedOut)
 }
 
+// One loop for both, lent the call as a closure, was tried: it asks something of the closure, by a `requires`, and the bound that `Read` and `Write` have on the count is then not proved at once.
 impl<C: Clock, S: Read> Read for Patient<'_, C, S> {
     fn read(&mut self, buf: &mut [u8]) -> io::Result<usize> {
         for _ in 0..TRIES {

@@ -16,9 +16,11 @@ struct Table<'a> {
     constant: i64,
 }
 
-impl<'a> Table<'a> {
-    // The table that an input asks for, with no margin.
-    fn of(input: &'a [u8]) -> Result<Table<'a>, Refusal> {
+// The table that an input asks for, with no margin.
+impl<'a> TryFrom<&'a [u8]> for Table<'a> {
+    type Error = Refusal;
+
+    fn try_from(input: &'a [u8]) -> Result<Table<'a>, Refusal> {
         let [image @ .., kind, parameter] = input else {
             return Err(Refusal::Image);
         };
@@ -36,7 +38,9 @@ impl<'a> Table<'a> {
             constant,
         })
     }
+}
 
+impl Table<'_> {
     // Row i in front of the lent places; its number k stands at the pair (i, i + k), the first at bit i alone.
     fn row<'b>(&self, i: u64, places: &'b mut [i64]) -> &'b mut [i64] {
         plans::row(self.image, self.ask, i, places)
@@ -76,7 +80,7 @@ fn write_entry(out: &mut impl Write, start: &str, j: u64, z: i64) -> io::Result<
 
 /// Writes the table that an input asks for, or the refusal.
 pub fn write_answer(alloc: Global, out: &mut impl Write, input: &[u8]) -> io::Result<()> {
-    match Table::of(input) {
+    match Table::try_from(input) {
         Ok(table) => table.write(alloc, out),
         Err(refusal) => writeln!(out, "refused {}", refusal.number()),
     }

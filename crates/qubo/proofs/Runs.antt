@@ -1,10 +1,13 @@
 -- Runs of bits: which bits a run has, and what of it comes after one of its bits.
 -- Assumes nothing.
-use mathlib.Core.Path.{◌≡◌, sym, ap, ap₂, ◌∙◌}
+use mathlib.Core.Path.{◌≡◌, refl, sym, ap, ap₂, ◌∙◌}
 use Prim.Native.Nat.{ℕ, zero, suc, pred, ◌+◌, ◌-◌, ◌*◌, ◌/◌, ◌%◌, ◌^◌, ◌≤◌, ◌<◌}
 use native.Mathlib.Nat.{mul-le-mul_right, add-mul, div-add-mod', mod-lt}
 use native.Mathlib.Omega.{arith}
 use native.Mathlib.Decide.{dec_lt}
+use mathlib.Core.Bool.{Bool, true, false}
+use Rattle.std.specs.Bool.{then_some}
+use Rattle.std.specs.Prelude.{MatchOption}
 use lib.IntN.{ℤ, pos, ◌+ℤ◌, +ℤ_idl}
 use Rattle.qubo.specs.Table.{only, coef}
 use Rattle.qubo.specs.Rows.{run_bit, run_sum, RunBelow, IsNumber, later}
@@ -125,3 +128,9 @@ later_coef r i t h n k =
     after : (s : ℕ) → 1 ≤ s → s ≤ m → f (suc t + s) ≡ only (run_bit (later r i t) s) (pos 1) (i + k)
     after zero a b = absurd (omega arith)
     after (suc s) a b = ap (λ (j : ℕ). only j (pos 1) (i + k)) (ap (λ (p : ℕ). r.start + p * r.step) (ap pred (let e : suc t + suc s ≡ suc (t + suc s) = omega arith in e)) ∙ omega (arith, n.here, add-mul t (suc s) r.step, add-mul s 1 r.step, ap (λ (p : ℕ). p * r.step) (let e : suc s ≡ s + 1 = omega arith in e)))
+
+-- ---- what a test tells of a number
+
+pub number_told : (P : Type 0) (Q : ℕ → Type 0) (b : Bool) (t : ℕ) → (b ≡ true → Q t) → (b ≡ false → P) → MatchOption (then_some b t) P Q
+number_told P Q true t y n = y refl
+number_told P Q false t y n = n refl

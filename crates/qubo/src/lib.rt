@@ -2,6 +2,7 @@
 // A row is lent as a slice: its first number is that of bit i, the next ones are those of the pairs (i, i + 1), (i, i + 2), ..
 // Each adder leaves "row i with that term added" and does nothing, in constant time, where bit i does not occur in the term.
 // `Room` says that no sum overflows: it follows from the norm of the formula whose terms are added.
+// A row and its number stay two parameters: a fact beside a `&mut` in a struct is not covered by the check.
 #![tactic(auto)]
 
 ghost use Rattle.std.specs.Prelude.{MatchOption, [], ◌∷◌, ◌≡◌, ◌+◌, ◌<◌, ◌≤◌, ◌^◌, length, get_or, pos, nat_abs};
@@ -10,7 +11,7 @@ ghost use Rattle.qubo.specs.Terms.{single, pair, unequal, times};
 ghost use Rattle.qubo.specs.Rows.{zeros, plus, add_terms, run_sum, run_one_hot, run_difference, RunBelow, IsNumber, later, Room};
 
 /// The bits start, start + step, start + 2 step, ..: count of them.
-#[derive(Clone, Copy)]
+#[derive(Clone, Copy, Debug, PartialEq, Eq)]
 pub struct Run {
     pub start: usize,
     pub step: usize,
@@ -22,6 +23,7 @@ mod problem;
 pub use problem::{Decoded, Problem};
 
 /// Makes a row of zeros.
+// For its contract alone: the adders start from a row of zeros.
 pub fn clear(row: &mut [i64])
     ensures { row.new ≡ zeros (length row.old) }
 {
@@ -75,9 +77,8 @@ fn add_own_unequal(row: &mut [i64], i: usize, j: usize, v: i64)
     ensures { row.new ≡ add_terms (unequal v i j ∷ []) i row.old }
 {
     let twice = 2 * v;
-    let minus = 0 - twice;
     add_single(row, i, i, v);
-    add_to_own(row, i, j, minus);
+    add_to_own(row, i, j, -twice);
 }
 
 /// Adds v times (bit p - bit q)² to row i, for p < q: v if exactly one of them is set. Their pair stands in the row of the lower one.
@@ -113,11 +114,7 @@ impl Run {
         }
         let off = i - self.start;
         let t = off / self.step;
-        if off % self.step == 0 && t < self.count {
-            Some(t)
-        } else {
-            None
-        }
+        (off % self.step == 0 && t < self.count).then_some(t)
     }
 
     // The bits of the run after bit i, which has number t in it.
@@ -138,10 +135,9 @@ fn add_own_one_hot(row: &mut [i64], i: usize, run: Run, t: usize, a: i64)
     requires { IsNumber run i t × RunBelow run (i + length row.old) × Room (2 ^ 61) (run_one_hot a run ∷ []) row.old }
     ensures { row.new ≡ add_terms (run_one_hot a run ∷ []) i row.old }
 {
-    let less = 0 - a;
     let twice = 2 * a;
     let rest = run.after(i, t);
-    add_single(row, i, i, less);
+    add_single(row, i, i, -a);
     add_run(row, i, rest, twice);
 }
 
@@ -162,14 +158,14 @@ fn add_own_difference(row: &mut [i64], i: usize, own: Run, t: usize, other: Run,
     ensures { row.new ≡ add_terms (run_difference a own other ∷ []) i row.old }
 {
     let same = 2 * a;
-    let opposite = 0 - same;
     let rest = own.after(i, t);
     add_single(row, i, i, a);
     add_run(row, i, rest, same);
-    add_run(row, i, other, opposite);
+    add_run(row, i, other, -same);
 }
 
 /// Adds a times (bits set in `left` - bits set in `right`)² to row i.
+// No caller yet: gateways will need it.
 pub fn add_squared_difference(row: &mut [i64], i: usize, left: Run, right: Run, a: i64)
     requires { RunBelow left (i + length row.old) × RunBelow right (i + length row.old) × Room (2 ^ 61) (run_difference a left right ∷ []) row.old }
     ensures { row.new ≡ add_terms (run_difference a left right ∷ []) i row.old }

@@ -46,6 +46,7 @@ pub trait Problem {
         ensures { result ≡ energy_of (instance self.now) bits.now };
 
     /// Whether the bytes are a plan; where they are, the bits are then its code.
+    // A bool and no Option: the contract says by one equation that it is the plan test, and no value comes with it.
     fn encode(&self, plan: &[u8], bits: &mut [u8]) -> bool
         requires { length bits.old ≡ (instance self.now).bits }
         ensures plan { result ≡ (instance self.now).is_plan plan.now }

@@ -15,44 +15,63 @@ pub fn penalty(site: &Site) -> u64 {
 /// "A times the sum over meters of (1 - bits set at it)², plus, for each link and channel, the weight if both ends have that channel."
 pub fn energy(site: &Site, a: u64, choices: Choices<'_>) -> u64 {
     a.wrapping_mul(choices.misses(site.meters()))
-        .wrapping_add(choices.link_sum(site, 2))
+        .wrapping_add(choices.clash_sum(site))
 }
 
-/// Whether neighbour u bears channel i: "Lower-numbered neighbours bear their mended channel, higher ones the bits as they came." `mended` has the lower-numbered ones.
-fn bears(choices: Choices<'_>, mended: &[u8], u: usize, i: usize) -> bool {
-    match of_meter(mended, u) {
-        Some(channel) => channel == i,
-        None => choices.bit(u, i) == 1,
+/// How far the bits are mended.
+#[derive(Clone, Copy)]
+struct Mending<'a> {
+    site: &'a Site,
+    choices: Choices<'a>,
+    /// the channels of the lower-numbered meters, which are mended
+    lower: &'a [u8],
+}
+
+impl Mending<'_> {
+    /// Whether neighbour u bears channel i: "Lower-numbered neighbours bear their mended channel, higher ones the bits as they came."
+    fn bears(self, u: usize, i: usize) -> bool {
+        match of_meter(self.lower, u) {
+            Some(channel) => channel == i,
+            None => self.choices.bit(u, i) == 1,
+        }
     }
-}
 
-/// The total weight of links of meter v to neighbours bearing channel i.
-fn heard(site: &Site, choices: Choices<'_>, mended: &[u8], v: usize, i: usize) -> u64 {
-    site.links()
-        .iter()
-        .filter(|link| link.has_end(v) && bears(choices, mended, link.other_end(v), i))
-        .map(|link| link.weight)
-        .fold(0, u64::wrapping_add)
-}
+    /// The total weight of links of meter v to neighbours bearing channel i.
+    fn heard(self, v: usize, i: usize) -> u64 {
+        self.site
+            .links()
+            .iter()
+            .filter(|link| link.has_end(v) && self.bears(link.other_end(v), i))
+            .map(|link| link.weight)
+            .fold(0, u64::wrapping_add)
+    }
 
-/// "the channel with the least total weight of links to neighbours bearing it, ties to the lowest channel".
-fn quietest(site: &Site, choices: Choices<'_>, mended: &[u8], v: usize) -> usize {
-    (1..=choices.n)
-        .min_by_key(|i| heard(site, choices, mended, v, *i))
-        .unwrap_or(0)
-}
+    /// "the channel with the least total weight of links to neighbours bearing it, ties to the lowest channel".
+    fn quietest(self, v: usize) -> usize {
+        // No kind has no channels: 0 is never given.
+        (1..=self.choices.n)
+            .min_by_key(|i| self.heard(v, *i))
+            .unwrap_or(0)
+    }
 
-/// What a meter is mended to, after those below it: "Just one bit set: kept. Several: the lowest channel set is kept. None: the channel with the least total weight".
-fn mended(site: &Site, choices: Choices<'_>, mended: &[u8], v: usize) -> usize {
-    (1..=choices.n)
-        .find(|i| choices.bit(v, *i) == 1)
-        .unwrap_or_else(|| quietest(site, choices, mended, v))
+    /// What the next meter is mended to: "Just one bit set: kept. Several: the lowest channel set is kept. None: the channel with the least total weight".
+    fn mended(self, v: usize) -> usize {
+        (1..=self.choices.n)
+            .find(|i| self.choices.bit(v, *i) == 1)
+            .unwrap_or_else(|| self.quietest(v))
+    }
 }
 
 /// Puts the channels that the bits are mended to into the plan, one for each meter.
 pub fn mend(site: &Site, choices: Choices<'_>, plan: &mut [u8]) {
     // By index: each meter reads the part of the list that is written by then.
     for k in 0..plan.len() {
-        plan[k] = (mended(site, choices, &plan[..k], k + 1) % 256) as u8;
+        let mending = Mending {
+            site,
+            choices,
+            lower: &plan[..k],
+        };
+        let channel = mending.mended(k + 1);
+        plan[k] = (channel % 256) as u8;
     }
 }

@@ -1,5 +1,5 @@
 // What channels and groups share: each meter takes one of 1..n. "Bit (v-1)·n + (i-1) is meter v on channel i."
-use crate::numbers::{self, before, cell, of_meter};
+use crate::numbers::{self, before, index_of, of_meter};
 use crate::sites::{Link, Site};
 
 /// An assignment for n channels or groups.
@@ -17,7 +17,7 @@ impl Choices<'_> {
 
     /// The bits set at a meter.
     pub fn bits_set(self, v: usize) -> u64 {
-        numbers::set(self.bits, number(self.n, v, 1), self.n)
+        numbers::count_set(self.bits, number(self.n, v, 1), self.n)
     }
 
     /// "the sum over meters of (1 - bits set at it)²".
@@ -27,25 +27,36 @@ impl Choices<'_> {
             .fold(0, u64::wrapping_add)
     }
 
-    /// How many channels or groups have just so many of a link's ends.
-    fn having(self, link: &Link, ends: u64) -> u64 {
+    /// How many channels both ends of a link have.
+    fn shared(self, link: &Link) -> u64 {
         (1..=self.n)
-            .filter(|i| self.bit(link.u, *i).wrapping_add(self.bit(link.v, *i)) == ends)
+            .filter(|i| self.bit(link.u, *i) == 1 && self.bit(link.v, *i) == 1)
             .count() as u64
     }
 
-    /// For each link and channel or group, the weight if it has just so many of the link's ends.
-    pub fn link_sum(self, site: &Site, ends: u64) -> u64 {
-        site.links()
-            .iter()
-            .map(|link| link.weight.wrapping_mul(self.having(link, ends)))
-            .fold(0, u64::wrapping_add)
+    /// How many groups just one end of a link is in.
+    fn cut(self, link: &Link) -> u64 {
+        (1..=self.n)
+            .filter(|i| self.bit(link.u, *i) != self.bit(link.v, *i))
+            .count() as u64
+    }
+
+    /// "for each link and channel, the weight if both ends have that channel".
+    pub fn clash_sum(self, site: &Site) -> u64 {
+        let of_link = |link: &Link| link.weight.wrapping_mul(self.shared(link));
+        site.links().iter().map(of_link).fold(0, u64::wrapping_add)
+    }
+
+    /// "for each link and group, the weight if exactly one end is in it".
+    pub fn cut_sum(self, site: &Site) -> u64 {
+        let of_link = |link: &Link| link.weight.wrapping_mul(self.cut(link));
+        site.links().iter().map(of_link).fold(0, u64::wrapping_add)
     }
 }
 
 /// The number of the bit that is meter v on channel i, or in group i.
 fn number(n: usize, v: usize, i: usize) -> usize {
-    cell(before(v), n, before(i))
+    index_of(before(v), n, before(i))
 }
 
 /// "Channels: 1..n each."
@@ -53,11 +64,25 @@ pub fn in_range(plan: &[u8], n: usize) -> bool {
     plan.iter().all(|i| (1..=n).contains(&usize::from(*i)))
 }
 
-/// The weight of the links whose ends have the same number, or of those whose ends have not.
-pub fn weight(site: &Site, plan: &[u8], same: bool) -> u64 {
+/// Whether a plan has the ends of a link on different channels, or in different groups.
+fn is_cut(plan: &[u8], link: &Link) -> bool {
+    of_meter(plan, link.u) != of_meter(plan, link.v)
+}
+
+/// "its clash weight (links with both ends on one channel)".
+pub fn clash_weight(site: &Site, plan: &[u8]) -> u64 {
     site.links()
         .iter()
-        .filter(|link| (of_meter(plan, link.u) == of_meter(plan, link.v)) == same)
+        .filter(|link| !is_cut(plan, link))
+        .map(|link| link.weight)
+        .fold(0, u64::wrapping_add)
+}
+
+/// "its cut weight (each cut link once)".
+pub fn cut_weight(site: &Site, plan: &[u8]) -> u64 {
+    site.links()
+        .iter()
+        .filter(|link| is_cut(plan, link))
         .map(|link| link.weight)
         .fold(0, u64::wrapping_add)
 }
@@ -65,6 +90,6 @@ pub fn weight(site: &Site, plan: &[u8], same: bool) -> u64 {
 /// Sets the code of a plan: "The code of a plan for channels or groups sets each meter's bit for its channel or group and no others."
 pub fn set_code(n: usize, plan: &[u8], bits: &mut [u8]) {
     for (k, i) in plan.iter().enumerate() {
-        numbers::set_bit(bits, cell(k, n, before(usize::from(*i))));
+        numbers::set_bit(bits, index_of(k, n, before(usize::from(*i))));
     }
 }

@@ -35,7 +35,7 @@ fn gaps(groups: Choices<'_>, meters: usize) -> u64 {
 pub fn energy(site: &Site, a: u64, groups: Choices<'_>) -> u64 {
     let meters = site.meters();
     let sums = groups.misses(meters).wrapping_add(gaps(groups, meters));
-    a.wrapping_mul(sums).wrapping_add(groups.link_sum(site, 1))
+    a.wrapping_mul(sums).wrapping_add(groups.cut_sum(site))
 }
 
 /// How many meters a plan has in group i.

@@ -29,7 +29,7 @@ impl Kind {
     /// How many bits there are, for a site of so many meters and links, which need not be small.
     pub fn bits_of(self, meters: usize, links: usize) -> usize {
         match self {
-            Kind::Channels(n) | Kind::Groups(n) => numbers::cell(meters, n, 0),
+            Kind::Channels(n) | Kind::Groups(n) => numbers::index_of(meters, n, 0),
             Kind::Tree(d) => Layout::new(meters, links, d).bits(),
         }
     }

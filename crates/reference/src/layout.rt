@@ -1,7 +1,7 @@
 // The bits of trees: "Bits, in order: meter v at depth 0..D (meter by meter); links in chain order, for each arc u to v then v to u, depths 1..D; meter v has exactly j neighbours, j = 1..d."
 ghost use Rattle.std.specs.Prelude.{◌^◌, ◌<◌};
 
-use crate::numbers::{before, cell};
+use crate::numbers::{before, index_of};
 
 /// Where the bits of a tree stand.
 #[derive(Clone, Copy)]
@@ -48,28 +48,28 @@ impl Layout {
 
     /// The number of the bit that is meter v at depth i.
     pub fn depth(self, v: usize, i: usize) -> usize {
-        cell(before(v), self.depths(), i)
+        index_of(before(v), self.depths(), i)
     }
 
     /// Where the bits of link k begin, in chain order from 0.
     pub fn link(self, k: usize) -> usize {
-        let depths_end = cell(self.meters, self.depths(), 0);
-        cell(k, self.link_bits(), depths_end)
+        let depths_end = index_of(self.meters, self.depths(), 0);
+        index_of(k, self.link_bits(), depths_end)
     }
 
     /// The number of the bit that is an arc at depth i.
     pub fn arc(self, arc: Arc, i: usize) -> usize {
         let first = self.link(arc.link);
-        cell(usize::from(arc.back), self.greatest_depth(), first).wrapping_add(before(i))
+        index_of(usize::from(arc.back), self.greatest_depth(), first).wrapping_add(before(i))
     }
 
     /// The number of the bit that is meter v having exactly j neighbours.
     pub fn count(self, v: usize, j: usize) -> usize {
-        cell(before(v), self.limit, self.link(self.links)).wrapping_add(before(j))
+        index_of(before(v), self.limit, self.link(self.links)).wrapping_add(before(j))
     }
 
     /// How many bits there are.
     pub fn bits(self) -> usize {
-        cell(self.meters, self.limit, self.link(self.links))
+        index_of(self.meters, self.limit, self.link(self.links))
     }
 }

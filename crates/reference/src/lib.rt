@@ -23,8 +23,11 @@ use parents::Parents;
 pub use sites::{Link, Site, Weights};
 use trees::Assignment;
 
+/// How many bits the code of a plan has room for.
+pub const ROOM: usize = 128;
+
 /// Room for the code of a plan, which takes the front of it.
-pub type Code = [u8; 128];
+pub type Code = [u8; ROOM];
 
 /// Not refused by 18, "margin too large": "a margin from 0 to 1,000,000" (02, S-7).
 pub fn allows_margin(margin: u64) -> bool {
@@ -97,8 +100,8 @@ impl Site {
     /// A plan's weight: "its clash weight (links with both ends on one channel), its cut weight (each cut link once) or its tree's weight (the links from meters to their parents)".
     pub fn weight_of(&self, kind: Kind, plan: &[u8]) -> u64 {
         match kind {
-            Kind::Channels(_) => choices::weight(self, plan, true),
-            Kind::Groups(_) => choices::weight(self, plan, false),
+            Kind::Channels(_) => choices::clash_weight(self, plan),
+            Kind::Groups(_) => choices::cut_weight(self, plan),
             Kind::Tree(_) => self.parents(plan).weight(),
         }
     }
@@ -108,7 +111,7 @@ impl Site {
         if !self.is_plan(kind, plan) {
             return None;
         }
-        let mut bits = [0; 128];
+        let mut bits = [0; ROOM];
         match kind {
             Kind::Channels(n) | Kind::Groups(n) => choices::set_code(n, plan, &mut bits),
             Kind::Tree(d) => self.parents(plan).set_code(self.layout(d), &mut bits),

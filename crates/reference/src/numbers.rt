@@ -1,4 +1,5 @@
 // Arithmetic and reads that never fail. The sites compared are small, so nothing wraps for them, and no bit that they have is past the end. Sums are folds by `wrapping_add` throughout: `sum` would want a bound on each number that is added.
+// One function for them, `total(numbers: impl Iterator<Item = u64>)`, was tried: it would have to require of each caller that the iterator ends.
 ghost use Rattle.std.specs.Prelude.{◌≤◌};
 
 /// (a - b)².
@@ -8,7 +9,7 @@ pub fn gap_squared(a: u64, b: u64) -> u64 {
 }
 
 /// row·width + column, counted from 0.
-pub fn cell(row: usize, width: usize, column: usize) -> usize {
+pub fn index_of(row: usize, width: usize, column: usize) -> usize {
     row.wrapping_mul(width).wrapping_add(column)
 }
 
@@ -28,7 +29,7 @@ pub fn bit_at(bits: &[u8], i: usize) -> u64
 }
 
 /// How many of `count` bits are set, from bit `first` on.
-pub fn set(bits: &[u8], first: usize, count: usize) -> u64 {
+pub fn count_set(bits: &[u8], first: usize, count: usize) -> u64 {
     (0..count)
         .map(|k| bit_at(bits, first.wrapping_add(k)))
         .fold(0, u64::wrapping_add)

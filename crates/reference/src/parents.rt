@@ -43,7 +43,7 @@ impl Parents<'_> {
     /// Whether a meter is the root or its parent is a linked neighbour.
     fn parent_fits(self, v: usize) -> bool {
         match self.parent(v) {
-            Some(parent) => self.site.weight(parent, v) != 0,
+            Some(parent) => self.site.weight(parent, v).is_some(),
             None => true,
         }
     }
@@ -65,7 +65,9 @@ impl Parents<'_> {
     /// "its tree's weight (the links from meters to their parents)".
     pub fn weight(self) -> u64 {
         (1..=self.site.meters())
-            .filter_map(|v| self.parent(v).map(|parent| self.site.weight(parent, v)))
+            .filter_map(|v| self
+                .parent(v)
+                .and_then(|parent| self.site.weight(parent, v)))
             .fold(0, u64::wrapping_add)
     }
 

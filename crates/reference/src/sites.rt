@@ -95,12 +95,12 @@ impl Site {
         &self.links[..self.count]
     }
 
-    /// The weight of the link of u and v, either way round; 0 where there is none.
-    pub fn weight(&self, u: usize, v: usize) -> u64 {
+    /// The weight of the link of u and v, either way round; `None` where there is none.
+    pub fn weight(&self, u: usize, v: usize) -> Option<u64> {
         self.links()
             .iter()
             .find(|link| link.joins(u, v))
-            .map_or(0, |link| link.weight)
+            .map(|link| link.weight)
     }
 
     /// The sum of all weights.

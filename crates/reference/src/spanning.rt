@@ -56,7 +56,7 @@ fn tree_weight(site: &Site, d: usize) -> Option<u64> {
     }
     let reached = reach(site);
     let fits = (1..=site.meters()).all(|v| reached.has(v) && site.links_at(v) <= d);
-    if fits { Some(site.total()) } else { None }
+    fits.then_some(site.total())
 }
 
 /// The least weight of the spanning trees within the neighbour limit, over all subsets of the links.

@@ -2,7 +2,7 @@
 ghost use Rattle.std.specs.Prelude.{◌≤◌};
 
 use crate::layout::{Arc, Layout};
-use crate::numbers::{before, bit_at, gap_squared, set};
+use crate::numbers::{before, bit_at, count_set, gap_squared};
 use crate::sites::{Link, Site};
 
 /// "A is 1 plus the sum of all weights."
@@ -33,17 +33,18 @@ impl Assignment<'_> {
 
     /// How many bits of the two arcs of link k are set.
     fn arcs_set(self, k: usize) -> u64 {
-        set(self.bits, self.layout.link(k), self.layout.link_bits())
+        count_set(self.bits, self.layout.link(k), self.layout.link_bits())
     }
 
     /// The depth-i arcs into a meter.
+    // What this and `arcs_at` go through as one method, with a closure for what is added, was tried: it would have to require that the closure can be called.
     fn arcs_in(self, v: usize, i: usize) -> u64 {
         self.site
             .links()
             .iter()
             .enumerate()
             .filter(|(_, link)| link.has_end(v))
-            .map(|(k, link)| self.arc(into(k, link, v), i))
+            .map(|(k, link)| self.arc(arc_into(k, link, v), i))
             .fold(0, u64::wrapping_add)
     }
 
@@ -74,14 +75,14 @@ impl Assignment<'_> {
 
     /// Of one meter: "(1 - its neighbour-count bits)²" and "(sum of j over those set - all arc bits in or out of it)²".
     fn count_sum(self, v: usize) -> u64 {
-        let counts = set(self.bits, self.layout.count(v, 1), self.layout.limit);
+        let counts = count_set(self.bits, self.layout.count(v, 1), self.layout.limit);
         gap_squared(1, counts).wrapping_add(gap_squared(self.counted(v), self.arcs_at(v)))
     }
 
     /// "(1 - its depth bits)²", of one meter.
     fn depth_sum(self, v: usize) -> u64 {
         let layout = self.layout;
-        gap_squared(1, set(self.bits, layout.depth(v, 0), layout.depths()))
+        gap_squared(1, count_set(self.bits, layout.depth(v, 0), layout.depths()))
     }
 
     /// The second to fifth sums, of one meter.
@@ -107,14 +108,14 @@ impl Assignment<'_> {
     /// "per arc from u to v at depth i, its bit times (2 - [u at i-1] - [v at i])", of one arc.
     fn arc_sum(self, arc: Arc, u: usize, v: usize) -> u64 {
         (1..=self.layout.greatest_depth())
-            .map(|i| { self.arc(arc, i).wrapping_mul(self.missing_ends(u, v, i)) })
+            .map(|i| self.arc(arc, i).wrapping_mul(self.missing_ends(u, v, i)))
             .fold(0, u64::wrapping_add)
     }
 
     /// The same, of the two arcs of link k.
     fn link_sum(self, k: usize, link: &Link) -> u64 {
-        self.arc_sum(into(k, link, link.v), link.u, link.v)
-            .wrapping_add(self.arc_sum(into(k, link, link.u), link.v, link.u))
+        self.arc_sum(arc_into(k, link, link.v), link.u, link.v)
+            .wrapping_add(self.arc_sum(arc_into(k, link, link.u), link.v, link.u))
     }
 
     /// The sixth sum.
@@ -151,7 +152,7 @@ impl Assignment<'_> {
 }
 
 /// The arc of link k into one of its ends.
-fn into(k: usize, link: &Link, v: usize) -> Arc {
+fn arc_into(k: usize, link: &Link, v: usize) -> Arc {
     Arc {
         link: k,
         back: link.u == v,

@@ -14,13 +14,14 @@ use Rattle.links.specs.declared.Link.{Link}
 use Rattle.lists.proofs.Tests.{or_right}
 use Rattle.site.specs.Layout.{SIZE, RECORDS, METERS, byte, word, count, meters_at, count_at, free_at, meters, first_free, set_word}
 use Rattle.site.specs.Image.{links, valid}
-use Rattle.site.specs.Refusal.{refusal, number_of}
+use Rattle.site.specs.Refusal.{refusal, number_of, number_told}
 use Rattle.site.specs.declared.refusals.Refusal.{Refusal}
 use Rattle.site.specs.declared.refusals.Refusal.TheVariants.{Image, Ends, Weight, Present, Absent, Full, Kind, Bits, Length, Row, NotBits, NoPlan, Margin}
 use Rattle.site.specs.Edits.{check_refusal, zeros, chained, place, after, begin_bytes, begin_refusal, begin_image, add_bytes, add_refusal, add_image, remove_bytes, remove_refusal, remove_image}
 use Rattle.site.specs.Reading.{read_meters, read_links, store_from, over}
 use Rattle.site.specs.Inner.{find_refusal, is_link, at_place}
-use Rattle.std.specs.Prelude.{min, max, Result, Ok, Err}
+use Rattle.std.specs.Prelude.{min, max, Option, None, Result, Ok, Err}
+use Rattle.std.specs.Option.{ok_or}
 use Rattle.std.specs.Result.{result_unwrap_or, OkIff}
 use Rattle.site.proofs.Placed.{at_place_fact, place_fits}
 use Rattle.site.proofs.Valid.{valid_long, links_survey}
@@ -38,6 +39,10 @@ check_yes s e = rw e
 pub check_no : (s : List ℕ) → valid s ≡ false → 1 ≡ check_refusal s
 unfolding check_refusal refusal
 check_no s e = rw e
+
+-- what is no image is refused by 1
+pub image_refused : {A : Type 0} (o : Option A) (r : Refusal) → Err r ≡ ok_or o Image → o ≡ None → number_of r ≡ 1
+image_refused o r e n = ap number_told e ∙ rw n refl
 
 -- ---- what add and remove refuse alike
 

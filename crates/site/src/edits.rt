@@ -8,7 +8,7 @@ ghost use Rattle.site.specs.Edits.{chained, slot, after, place, add_bytes, remov
 ghost use Rattle.site.specs.Inner.{is_link, find_refusal};
 
 use crate::fields::Record;
-use crate::rules::NO_LINK;
+use crate::rules::{NO_LINK, NO_LINKS};
 use crate::{Refusal, fields, rules};
 use links::Link;
 
@@ -35,10 +35,10 @@ fn holds_link(s: &[u8], a: u8, b: u8, q: usize) -> bool
         return false;
     }
     let link = fields::read_record(s, q).link;
-    (link.u == a) & (link.v == b)
+    (link.u, link.v) == (a, b)
 }
 
-// Whether an end is 0 or above n, or both are equal.
+// Whether an end is 0 or above n, or both are equal. `|` keeps the proof to one path.
 fn bad_ends(n: u64, a: u64, b: u64) -> bool
     ensures { result ≡ bad_ends n a b }
 {
@@ -51,6 +51,7 @@ pub struct Found {
     pub u: u8,
     pub v: u8,
     pub place: usize,
+    // No Option of the place: add needs it where the link is absent, remove where it is present.
     pub present: bool,
 }
 
@@ -62,10 +63,8 @@ pub fn find(image: &[u8], u: u64, v: u64) -> Result<Found, Refusal>
     let a = u8::try_from(u.min(v)).unwrap_or(0);
     let b = u8::try_from(u.max(v)).unwrap_or(0);
     // The walk that tests the image finds the place too, so that it is the only one. Its links are of no use here.
-    let mut links = [NO_LINK; 256];
-    let Some(place) = rules::read_image(image, a, b, &mut links) else {
-        return Err(Refusal::Image);
-    };
+    let mut links = NO_LINKS;
+    let place = rules::read_image(image, a, b, &mut links).ok_or(Refusal::Image)?;
     if bad_ends(image[fields::METERS_AT] as u64, u, v) {
         return Err(Refusal::Ends);
     }

@@ -1,5 +1,6 @@
 // Reads and stores the fields of an image. No other file of the code says where a field stands.
 // An image stays a slice whose length the contracts ask for, and is not made an array first: each call would convert it, and what a converted `&mut` slice holds afterwards is told only by way of that array. That is no plainer.
+// Record numbers stay usize with a bound: a type for them would be unwrapped at each place.
 ghost use Rattle.std.specs.Prelude.{◌≡◌, ◌+◌, ◌<◌, ◌≤◌, length};
 ghost use Rattle.site.specs.Layout.{SIZE, RECORDS, record_at, word, next, pad, set_word, set_record};
 ghost use Rattle.site.specs.Image.{link_at};
@@ -7,25 +8,34 @@ ghost use Rattle.site.specs.Edits.{slot, after};
 
 use links::Link;
 
+/// The bytes of an image.
 pub const IMAGE_LEN: usize = 2064;
 
+/// The records, which are numbered from 1.
 pub const RECORDS: usize = 256;
 
+/// The most meters that a site has.
 pub const METERS: u8 = 48;
 
+/// Where the number of meters stands.
 pub const METERS_AT: usize = 0;
 
-// The zero bytes of the header: one, and a run of them.
+/// The first zero byte of the header, which stands by itself.
 pub const ZERO_AT: usize = 1;
 
+/// Where the others begin.
 pub const ZEROS_AT: usize = 8;
 
+/// Where they end.
 pub const ZEROS_END: usize = 16;
 
+/// Where the number of the first link's record stands.
 pub const FIRST_AT: usize = 2;
 
+/// Where the number of the first free record stands.
 pub const FREE_AT: usize = 4;
 
+/// Where the number of links stands.
 pub const COUNT_AT: usize = 6;
 
 /// What a record holds: a link, the number of the next record, and the number that its two zero bytes make.
@@ -79,6 +89,7 @@ pub fn slot_of(p: usize) -> usize
 }
 
 /// The record that follows record p in the link chain, 0 for none.
+// 0 and no Option: the image itself has 0 where a chain begins in the header or ends.
 pub fn follower(s: &[u8], p: usize) -> u16
     requires { (length s.now ≡ SIZE) × (p ≤ RECORDS) }
     ensures { result ≡ after s.now p }

@@ -13,7 +13,7 @@ ghost use Rattle.site.specs.Reading.{read_meters, read_links, over};
 
 use links::Link;
 pub use refusals::Refusal;
-pub use rules::NO_LINK;
+pub use rules::{NO_LINK, NO_LINKS};
 
 /// Tells whether the bytes are a site image.
 pub fn check(image: &[u8]) -> Result<(), Refusal>
@@ -83,6 +83,7 @@ pub fn remove(image: &mut [u8], u: u64, v: u64) -> Result<(), Refusal>
 }
 
 /// What is read out of an image beside the links: the number of meters, and how many links there are.
+// A count and no slice: of a lent slice of which a part is returned, no contract can tell the rest.
 #[derive(Clone, Copy, Debug, PartialEq, Eq)]
 pub struct Reading {
     pub meters: usize,
@@ -96,11 +97,9 @@ pub fn read(image: &[u8], links: &mut [Link; 256]) -> Result<Reading, Refusal>
     ensures links_after { links.new ≡ over (read_links image.now) links.old }
     ensures image_value { image.exit.now ≡ image.entry.now }
 {
-    let mut front = [NO_LINK; 256];
-    // No place is asked for. The walk may fail after it has stored, so that its array is not the lent one.
-    let Some(_) = rules::read_image(image, 0, 0, &mut front) else {
-        return Err(Refusal::Image);
-    };
+    let mut front = NO_LINKS;
+    // No place is asked for: (0, 0) and no Option, as in `is_image`. The walk may fail after it has stored, so that its array is not the lent one.
+    rules::read_image(image, 0, 0, &mut front).ok_or(Refusal::Image)?;
     let meters = image[fields::METERS_AT] as usize;
     let count = fields::read_word(image, fields::COUNT_AT) as usize;
     links[..count].copy_from_slice(&front[..count]);

@@ -38,6 +38,7 @@ impl Refusal {
     ghost use Rattle.site.specs.Refusal.{number_of};
 
     /// The papers' number.
+    // A method and no From: contracts and definitions speak of the number.
     pub fn number(self) -> u64
         ensures { result ≡ number_of self }
     {

@@ -20,7 +20,11 @@ pub const NO_LINK: Link = Link {
     weight: 0,
 };
 
+/// The array to lend for the links of an image, before any is read.
+pub const NO_LINKS: [Link; 256] = [NO_LINK; 256];
+
 /// Whether k names a record.
+// Both tests are made, as in `link_fits`.
 pub fn names_record(k: usize) -> bool
     ensures { result ≡ named k }
 {
@@ -41,7 +45,7 @@ fn all_zero(bytes: &[u8]) -> bool
     bytes.iter().all(|byte| *byte == 0)
 }
 
-// Whether the header's zero bytes are zero and its number of meters is 1 to 48.
+// Whether the header's zero bytes are zero and its number of meters is 1 to 48. `&` keeps the proof to one path.
 fn head_ok(s: &[u8]) -> bool
     requires { length s.now ≡ SIZE }
     ensures { result ≡ head_ok s.now }
@@ -60,7 +64,7 @@ fn link_fits(r: Record, n: u8, last: usize) -> bool
     link & (r.pad == 0) & (last < key_of(u, v))
 }
 
-// Whether a record is zero but for next.
+// Whether a record is zero but for next. No branch stands between the two tests, as in `link_fits`.
 fn is_free(r: Record) -> bool
     ensures { result ≡ (eqb r.link.u 0 && (eqb r.link.v 0 && (eqb r.link.weight 0 && eqb r.pad 0))) }
 {
@@ -70,6 +74,7 @@ fn is_free(r: Record) -> bool
 // Whether the link chain has as many records as there are lent places and then ends, each a link's, in rising order; and if so, the links in these places, and the last of the records that
 // stands before the ends (a, b), 0 for none. The walk waits for the next record's number at every step, so that what it stores and remembers costs it nothing, where a second walk would cost as much
 // again. Keys in place of pairs of ends keep what the loop has in hand few enough for the registers.
+// 0 for none and no Option, as in the image: see `follower` in fields.rt.
 fn walk_links(s: &[u8], n: u8, a: u8, b: u8, links: &mut [Link]) -> Option<usize>
     requires { (length s.now ≡ SIZE) × (length links.old ≤ RECORDS) }
     ensures { MatchOption result (walk_links s.now n (length links.old) (first s.now) 0 0 ≡ false) (λ p. (walk_links s.now n (length links.old) (first s.now) 0 0 ≡ true) × (links.new ≡ links_on s.now (length links.old) (first s.now)) × (p ≡ last_before s.now a b (length links.old) (first s.now) 0)) }
@@ -116,6 +121,7 @@ fn frees_ok(s: &[u8], count: usize) -> bool
 }
 
 /// Where bytes are a site image, its links in the front places of the array, and the record after which the link with ends a and b stands, or is to stand; 0 for the front of the chain.
+// 0 and no Option, as in the image: see `follower` in fields.rt.
 pub fn read_image(s: &[u8], a: u8, b: u8, links: &mut [Link; 256]) -> Option<usize>
     ensures { MatchOption result (valid s.now ≡ false) (λ p. (valid s.now ≡ true) × (links.new ≡ over (links_of s.now) links.old) × (p ≡ place s.now a b)) }
 {
@@ -129,9 +135,7 @@ pub fn read_image(s: &[u8], a: u8, b: u8, links: &mut [Link; 256]) -> Option<usi
     if fields::RECORDS < count {
         return None;
     }
-    let Some(place) = walk_links(s, s[fields::METERS_AT], a, b, &mut links[..count]) else {
-        return None;
-    };
+    let place = walk_links(s, s[fields::METERS_AT], a, b, &mut links[..count])?;
     if frees_ok(s, fields::RECORDS - count) {
         Some(place)
     } else {
@@ -143,6 +147,7 @@ pub fn read_image(s: &[u8], a: u8, b: u8, links: &mut [Link; 256]) -> Option<usi
 pub fn is_image(s: &[u8]) -> bool
     ensures { result ≡ valid s.now }
 {
-    // No place is asked for, and no link stands before (0, 0).
-    read_image(s, 0, 0, &mut [NO_LINK; 256]).is_some()
+    // No place is asked for: no link stands before (0, 0), and a None would be made the same ahead of the walk.
+    let mut links = NO_LINKS;
+    read_image(s, 0, 0, &mut links).is_some()
 }

@@ -29,6 +29,7 @@ impl fmt::Display for Decoding {
 /// The number of the refusal, 0 where there is none.
 pub fn number<T: Drop>(answer: Result<T, Refusal>) -> u64 {
     match answer {
+        // A number and no Option: a line of the output has the 0.
         Ok(_) => 0,
         Err(refusal) => refusal.number(),
     }

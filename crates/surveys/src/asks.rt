@@ -14,17 +14,17 @@ const SHOWN: usize = 12;
 // So many numbers are lent for a row at most.
 const MOST_NUMBERS: usize = 8192;
 
-/// Bytes that are lent for a plan or its code: so many, as far as it has them.
-pub fn lent_bytes(alloc: Global, count: u64) -> Result<Vec<u8>, AllocError>
-    ensures { IfOk result (λ v. vec_len v ≡ min count MOST_BYTES) }
-{
-    vec![in alloc; 7u8; MOST_BYTES.min(count as usize)]
-}
+// What a number lent for a row is at first.
+const NUMBER: i64 = 77;
 
-fn lent_numbers(alloc: Global, count: u64) -> Result<Vec<i64>, AllocError>
-    ensures { IfOk result (λ v. vec_len v ≡ min count MOST_NUMBERS) }
+/// What a byte lent for a plan or its code is at first.
+pub const BYTE: u8 = 7;
+
+/// What is lent: so many of a value, as far as there may be as many.
+pub fn lent<T: Copy>(alloc: Global, value: T, most: usize, count: u64) -> Result<Vec<T>, AllocError>
+    ensures { IfOk result (λ v. vec_len v ≡ min count most) }
 {
-    vec![in alloc; 77i64; MOST_NUMBERS.min(count as usize)]
+    vec![in alloc; value; most.min(count as usize)]
 }
 
 /// `kind K P`: the bit count, the constant and A.
@@ -44,15 +44,17 @@ pub struct Row {
 }
 
 impl Row {
+    /// From the words of a line.
     pub fn new(ask: Ask, [_, _, index, count, ..]: Numbers) -> Row {
         Row { ask, index, count }
     }
 
-    /// The number with which the row is refused, and the length of the part that comes back; the number of the call that fills other places, in how many places what the two calls leave differs, and
-    /// what the first one leaves.
+    /// The number of the row's refusal, 0 for none, and the length of the part that comes back; the same number of the call that fills other places, in how many places what the two calls leave
+    /// differs, and what the first one leaves.
     pub fn show(self, alloc: Global, out: &mut impl Write, image: &[u8]) -> io::Result<()> {
-        let mut places = lent_numbers(alloc, self.count)?;
-        let mut others = lent_numbers(alloc, self.count)?;
+        // An allocator is a parameter in this language.
+        let mut places = lent(alloc, NUMBER, MOST_NUMBERS, self.count)?;
+        let mut others = lent(alloc, NUMBER, MOST_NUMBERS, self.count)?;
         let refusal = number(plans::row_refusal(image, self.ask, self.index, places.as_slice()));
         let len = plans::row(image, self.ask, self.index, places.as_mut_slice()).len();
         let filled = number(plans::fill_row(image, self.ask, self.index, others.as_mut_slice()));
@@ -74,6 +76,7 @@ pub struct Coding {
 }
 
 impl Coding {
+    /// From a line.
     pub fn new(alloc: Global, ask: Ask, line: &[u8]) -> Result<Coding, AllocError> {
         let [_, _, _, count, ..] = words::numbers(line);
         Ok(Coding {
@@ -86,7 +89,7 @@ impl Coding {
     /// Of the bits given: the energy, then the weight and how many meters were repaired, and the plan.
     pub fn show_decode(&self, alloc: Global, out: &mut impl Write, image: &[u8]) -> io::Result<()> {
         let bits = self.given.as_slice();
-        let mut plan = lent_bytes(alloc, self.count)?;
+        let mut plan = lent(alloc, BYTE, MOST_BYTES, self.count)?;
         let energy = Answer(plans::energy(image, self.ask, bits));
         let decoded = plans::decode(image, self.ask, bits, plan.as_mut_slice());
         let decoding = Answer(decoded.map(Decoding));
@@ -94,10 +97,10 @@ impl Coding {
         write_bytes(out, plan.as_slice())
     }
 
-    /// Of the plan given: the number returned, and the bits.
+    /// Of the plan given: the number of the refusal, 0 for none, and the bits.
     pub fn show_encode(&self, alloc: Global, out: &mut impl Write, image: &[u8]) -> io::Result<()> {
         let plan = self.given.as_slice();
-        let mut bits = lent_bytes(alloc, self.count)?;
+        let mut bits = lent(alloc, BYTE, MOST_BYTES, self.count)?;
         let refusal = number(plans::encode(image, self.ask, plan, bits.as_mut_slice()));
         write!(out, ": {refusal}")?;
         write_bytes(out, bits.as_slice())

@@ -11,6 +11,7 @@ use std::alloc::{AllocError, Global};
 pub enum Command {
     /// `begin N`, `add U V W` or `remove U V`
     Edit(Edit),
+    /// `circle N STEP W COUNT`
     Circle(Circle),
     /// `lend L`: so many bytes are lent as the image.
     Lend(usize),
@@ -20,9 +21,11 @@ pub enum Command {
     Try(Byte),
     /// `with M`: the margin.
     With(u64),
+    /// `image`
     Image,
     /// `kind K P`
     Kind(Ask),
+    /// `fill K P I COUNT`
     Fill(Row),
     /// `decode K P BITS COUNT`
     Decode(Coding),
@@ -48,10 +51,10 @@ impl Command {
             b'b' => Command::Edit(Edit::Begin(first)),
             b'a' => Command::Edit(Edit::Add(first, second, words::weight(third))),
             b'r' => Command::Edit(Edit::Remove(first, second)),
-            b'c' => Command::Circle(Circle::new(numbers)),
+            b'c' => Command::Circle(Circle::from(numbers)),
             b'l' => Command::Lend(first as usize),
-            b's' => Command::Set(Byte::new(numbers)),
-            b't' => Command::Try(Byte::new(numbers)),
+            b's' => Command::Set(Byte::from(numbers)),
+            b't' => Command::Try(Byte::from(numbers)),
             b'w' => Command::With(first),
             b'i' => Command::Image,
             b'k' => Command::Kind(ask),

@@ -1,4 +1,4 @@
-// Calls that alter an image, each with the number that it returns and how many bytes it altered.
+// Calls that alter an image, each with the number of its refusal, 0 for none, and how many bytes it altered.
 ghost use Rattle.std.specs.Prelude.{◌<◌, ◌≤◌};
 
 use crate::answers::{differing, number};
@@ -9,7 +9,7 @@ use std::io;
 use std::io::Write;
 
 /// An edit of the image.
-#[derive(Clone, Copy)]
+#[derive(Debug, Clone, Copy, PartialEq, Eq)]
 pub enum Edit {
     /// So many meters.
     Begin(u64),
@@ -28,8 +28,9 @@ impl Edit {
         }
     }
 
-    /// Makes the edit; the number returned, and how many bytes were altered.
+    /// Makes the edit; the number of its refusal, 0 for none, and how many bytes were altered.
     pub fn show(self, alloc: Global, out: &mut impl Write, image: &mut [u8]) -> io::Result<()> {
+        // An allocator is a parameter in this language.
         let old = image.to_vec(alloc)?;
         let refusal = number(self.make(image));
         write!(
@@ -52,8 +53,8 @@ pub struct Circle {
     ghost within_circle: { step < 48 },
 }
 
-impl Circle {
-    pub fn new([meters, step, weight, count, ..]: Numbers) -> Circle {
+impl From<Numbers> for Circle {
+    fn from([meters, step, weight, count, ..]: Numbers) -> Circle {
         Circle {
             meters: meters.clamp(1, 48),
             step: step % 48,
@@ -61,7 +62,9 @@ impl Circle {
             count: count.min(48),
         }
     }
+}
 
+impl Circle {
     // Adds the link from meter k + 1 round the circle. Gives whether it is accepted.
     fn add_link(self, image: &mut [u8], k: u64) -> bool {
         let from = k % self.meters;
@@ -88,14 +91,16 @@ pub struct Byte {
     value: u8,
 }
 
-impl Byte {
-    pub fn new([at, value, ..]: Numbers) -> Byte {
+impl From<Numbers> for Byte {
+    fn from([at, value, ..]: Numbers) -> Byte {
         Byte {
             at: at as usize,
             value: (value % 256) as u8,
         }
     }
+}
 
+impl Byte {
     /// Sets the byte, where the image has that place.
     pub fn set(self, image: &mut [u8]) {
         if let Some(place) = image.get_mut(self.at) {
@@ -103,7 +108,7 @@ impl Byte {
         }
     }
 
-    /// `try AT BYTE`: what the calls return of a copy of the image with the byte set, and how many bytes they altered together.
+    /// `try AT BYTE`: of calls with a copy of the image that has the byte, the numbers of the refusals, 0 for none, and how many bytes they altered together.
     pub fn show_calls(self, alloc: Global, out: &mut impl Write, image: &[u8]) -> io::Result<()> {
         let mut copy = image.to_vec(alloc)?;
         self.set(copy.as_mut_slice());

@@ -3,7 +3,7 @@ use site::NO_LINK;
 use std::io;
 use std::io::Write;
 
-/// `image`: the number that read returns, N, and every link with its weight.
+/// `image`: the number of the refusal, 0 for none, N, and every link with its weight.
 pub fn show(out: &mut impl Write, image: &[u8]) -> io::Result<()> {
     let mut links = [NO_LINK; 256];
     let reading = match site::read(image, &mut links) {

@@ -1,8 +1,8 @@
 // Tries all plans or all assignments, and finds the least energy.
 ghost use Rattle.std.specs.Prelude.{◌≤◌};
 
-use crate::asks::lent_bytes;
-use crate::words::Numbers;
+use crate::asks::{BYTE, lent};
+use crate::words::{MOST_BYTES, Numbers};
 use plans::{Ask, Refusal};
 use std::alloc::Global;
 use std::io;
@@ -12,9 +12,11 @@ use std::io::Write;
 const MOST_TRIED: u64 = 100000;
 
 /// What is tried: plans, which are coded, or assignments, which are decoded.
-#[derive(Clone, Copy)]
+#[derive(Debug, Clone, Copy, PartialEq, Eq)]
 pub enum Candidates {
+    /// All of so many bytes.
     Plans,
+    /// All of so many bits.
     Assignments,
 }
 
@@ -32,6 +34,7 @@ pub struct Search {
 }
 
 impl Search {
+    /// From the words of a line; above 100,000 candidates the others are left out.
     pub fn new(candidates: Candidates, ask: Ask, numbers: Numbers) -> Search {
         let [_, _, bytes, bits, top, count] = numbers;
         Search {
@@ -61,6 +64,7 @@ impl Search {
         bits: &mut [u8],
         number: u64,
     ) -> Result<(), Refusal> {
+        // Two cases, both written here: a closure for each is no shorter.
         match self.candidates {
             Candidates::Plans => {
                 self.put_digits(plan, number);
@@ -73,10 +77,11 @@ impl Search {
         }
     }
 
-    /// Tries them: how many there are, how many are plans, how many give 12, and the least energy. Bits that a refusal left as they were are no code (7 is no bit) or that of an earlier plan.
+    /// Tries them: how many there are, how many are plans, how many are refused by 12, and the least energy. Bits that a refusal left as they were are no code (7 is no bit) or that of an earlier plan.
     pub fn show(&self, alloc: Global, out: &mut impl Write, image: &[u8]) -> io::Result<()> {
-        let mut plan = lent_bytes(alloc, self.bytes)?;
-        let mut bits = lent_bytes(alloc, self.bits)?;
+        // An allocator is a parameter in this language.
+        let mut plan = lent(alloc, BYTE, MOST_BYTES, self.bytes)?;
+        let mut bits = lent(alloc, BYTE, MOST_BYTES, self.bits)?;
         let mut accepted = 0u64;
         let mut refused = 0u64;
         let mut least: Option<i64> = None;

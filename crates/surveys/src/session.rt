@@ -13,12 +13,14 @@ const LONGEST: usize = IMAGE + 1;
 /// The bytes of which the first are lent as the image, and the margin of what is asked.
 #[derive(Drop)]
 pub struct Session {
+    // Fixed, with a length beside: bytes that are not lent for a while keep what they hold.
     bytes: [u8; LONGEST],
     lent: usize,
     margin: u64,
 }
 
 impl Session {
+    /// A session with an image of zeros, of the length of an image, and no margin.
     pub fn new() -> Session {
         Session {
             bytes: [0; LONGEST],

@@ -20,14 +20,11 @@ fn is_space(letter: &u8) -> bool {
 
 // A digit's number.
 fn digit(letter: &u8) -> Option<u8> {
-    if letter.is_ascii_digit() {
-        Some(*letter - b'0')
-    } else {
-        None
-    }
+    letter.is_ascii_digit().then_some(letter.wrapping_sub(b'0'))
 }
 
 // The number that the digits in a word make; other letters are passed over. No line has a number above 2^64 - 1; what the digits of one make is of no use.
+// Not by parse: letters among the digits are passed over, and numbers that are too large have an answer too.
 fn number(word: &[u8]) -> u64 {
     word.iter().filter_map(digit).fold(0u64, |n, digit| {
         n.checked_mul(10)

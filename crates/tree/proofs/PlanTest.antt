@@ -25,6 +25,8 @@ use Rattle.spanning.specs.Parents.{deepest, depth_of, at_most, parent_linked, ro
 use Rattle.std.specs.Prelude.{Option, Some, None}
 use Rattle.std.specs.List.{list_all, range_with_len}
 use Rattle.spanning.proofs.Counting.{used_sum}
+use Rattle.spanning.proofs.Recursion.{depth_below}
+use Rattle.std.specs.Option.{MatchOption}
 use Rattle.tree.specs.Plans.{bit_of_depth, depth_choices, few_neighbours, is_plan, tree_weight}
 use Rattle.tree.specs.Inner.{Counted}
 use Rattle.tree.proofs.ParentLinks.{joining, all_linked}
@@ -87,6 +89,11 @@ weighed_end p ls k sum s h = summed_end (used_weight p) ls k sum s h ∙ sym (us
 -- a depth's bit is one more than the depth
 pub bit_at : (o : Option ℕ) (h : ℕ) → o ≡ Some h → h + 1 ≡ bit_of_depth o
 bit_at o h e = add-one h ∙ sym (ap bit_of_depth e)
+
+-- a depth mapped to its bit, where Q is what is known of that of a depth
+pub depth_mapped : {Q : ℕ → Type 0} (p : List ℕ) (N v r : ℕ) (o : Option ℕ) → o ≡ depth_of p N v → MatchOption o (r ≡ 0) Q → ((h : ℕ) → Q h → r ≡ h + 1) → (r ≡ bit_of_depth (depth_of p N v)) × (r ≤ N)
+depth_mapped p N v r None e m f = (m ∙ ap bit_of_depth e, omega (arith, m))
+depth_mapped p N v r (Some h) e m f = (f h m ∙ bit_at (depth_of p N v) h (sym e), omega (arith, f h m, depth_below p N v h (sym e)))
 
 -- a depth is at most D just where its bit is one of 1..D+1
 depth_test : (D : ℕ) (o : Option ℕ) → (leb 1 (bit_of_depth o) && leb (bit_of_depth o) (suc D)) ≡ at_most D o

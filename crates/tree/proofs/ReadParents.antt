@@ -35,6 +35,9 @@ cut_set x k D h = slice_sum x k (k + D) D refl h
 pub one_parent : (r n u : ℕ) → r ≡ n → n ≤ 1 → u ≤ 48 → r * u ≤ 48
 one_parent r n u e h b = mul-le-mul {n₂ = 1} {m₂ = 48} (omega arith) b
 
+pub parent_once : (x : List ℕ) (k D r u : ℕ) → k + D ≤ length x → set_from x k D ≤ 1 → u ≤ 48 → r ≡ sum_to (length (slice x k (k + D))) (nth (slice x k (k + D))) → r * u ≤ 48
+parent_once x k D r u h n b e = one_parent r _ u (e ∙ cut_set x k D h) n b
+
 -- added to the entry of meter v
 module _ (p : List ℕ) (v n : ℕ) (low : 1 ≤ v) where
   pub entry_added : (r u : ℕ) → r ≡ n → set p (v - 1) (get_or p (v - 1) 0 + r * u) ≡ added v (n * u) p

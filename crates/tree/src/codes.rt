@@ -10,22 +10,24 @@ ghost use Rattle.tree.specs.Plans.{depth_choices, arc_choice, arc_choices, count
 ghost use Rattle.tree.specs.Decoding.{candidate_to};
 ghost use Rattle.tree.specs.Inner.{placed, set_from, added, Readable};
 
+use crate::plans;
 use arcs::Arcs;
 use links::{Link, Survey};
 use neighbours::Neighbours;
 
-// Which of its bits the arc from u to v has set, from 1: that of the depth of v where u is its parent, else none. Depths are found once for each meter, so their bits are lent. The code of choices takes bytes in which 0 sets no bit, so this is no Option.
+// Which of its bits the arc from u to v has set, from 1: that of the depth of v where u is its parent, else none. Depths are found once for each meter, so their bits are lent. The code of choices takes bytes in which 0 sets no bit, so this is no Option. What is promised is of each arc with these ends, whatever its number and weight are.
 fn arc_choice(plan: &[u8], depths: &[u8], u: u8, v: u8) -> u8
     requires { (1 ≤ v) × (v ≤ length plan.now) × (depths.now ≡ depth_choices (length plan.now) plan.now) }
     ensures { (a : Arc) → a.parent ≡ u → a.child ≡ v → result ≡ arc_choice (length plan.now) plan.now a }
 {
-    if !crate::plans::is_parent(plan, u, v) {
+    if !plans::is_parent(plan, u, v) {
         return 0;
     }
     depths[(v as usize) - 1].saturating_sub(1)
 }
 
 // Which of its bits each arc has set: for each link that of u to v, then that of v to u.
+// Fixed places, cut by the caller: the library has no heap.
 fn arc_choices(survey: &Survey, plan: &[u8], depths: &[u8]) -> [u8; 512]
     requires { (length plan.now ≡ survey.now.meters) × (depths.now ≡ depth_choices (length plan.now) plan.now) }
     ensures { (length result ≡ 512) × (take (2 * length survey.now.links.now) result ≡ arc_choices (length plan.now) survey.now.links.now plan.now) }
@@ -40,14 +42,16 @@ fn arc_choices(survey: &Survey, plan: &[u8], depths: &[u8]) -> [u8; 512]
 }
 
 // Which of its count bits each meter has set: its number of neighbours.
+// Fixed places, cut by the caller: the library has no heap.
 fn neighbour_choices(plan: &[u8]) -> [u8; 256]
     requires { length plan.now ≤ 48 }
     ensures { (length result ≡ 256) × (take (length plan.now) result ≡ count_choices (length plan.now) plan.now) }
 {
     let children = onehot::count_choices(plan);
     let mut choices = [0; 256];
+    // By index: what a zipped `iter_mut` wrote is not told to a proof.
     for v in 0..plan.len() {
-        choices[v] = crate::plans::neighbours_at(&children, plan, v + 1) as u8;
+        choices[v] = plans::neighbours_at(&children, plan, v + 1) as u8;
     }
     choices
 }
@@ -61,7 +65,7 @@ fn encode_part(choices: &[u8], n: usize, start: usize, bits: &mut [u8])
     onehot::encode(choices, choices.len(), n, &mut bits[start..end]);
 }
 
-// The code of a plan: depths, whose bits are lent, arcs and numbers of neighbours.
+/// The code of a plan: depths, whose bits are lent, arcs and numbers of neighbours.
 pub fn encode(neighbours: &Neighbours, plan: &[u8], depths: &[u8], bits: &mut [u8])
     requires deepest { neighbours.now.arcs.deepest ≡ parents.deepest neighbours.now.arcs.survey.meters }
     requires plan { is_plan neighbours.now.arcs.survey.meters neighbours.now.d neighbours.now.arcs.survey.links.now plan.now ≡ true }
@@ -89,6 +93,7 @@ pub fn encode(neighbours: &Neighbours, plan: &[u8], depths: &[u8], bits: &mut [u
 }
 
 // Adds the parent u of an arc to the entry of its child v, once for each of the arc's bits that is set; they are the D bits from `start` on.
+#[tactic(auto, using(crate::proofs::ReadParents::parent_once))]
 fn read_arc(bits: &[u8], start: usize, deepest: usize, u: u8, v: u8, plan: &mut [u8])
     requires bits { Bits bits.now × (deepest ≤ 24) × (start + deepest ≤ length bits.now) × (set_from bits.now start deepest ≤ 1) }
     requires u_bound { (u ≤ 48) × (1 ≤ v) × (v ≤ length plan.old) × ((k : ℕ) → get_or plan.old k 0 ≤ 48) }
@@ -115,12 +120,13 @@ fn read_link(bits: &[u8], start: usize, deepest: usize, link: &Link, n: u8, plan
     read_arc(bits, middle, deepest, link.v, link.u, plan);
 }
 
-// The parents read off the arcs, where no meter has more than one arc set into it. How many bits each link's arcs have set is lent.
+/// The parents read off the arcs, where no meter has more than one arc set into it. How many bits each link's arcs have set is lent.
 pub fn read_parents(arcs: &Arcs, bits: &[u8], used: &[u8], plan: &mut [u8])
     requires { Readable arcs.now.survey.meters arcs.now.deepest arcs.now.survey.links.now bits.now × (length plan.old ≡ arcs.now.survey.meters) × Used arcs.now.survey.meters arcs.now.deepest (length arcs.now.survey.links.now) bits.now used.now }
     ensures { plan.new ≡ candidate_to arcs.now.deepest arcs.now.survey.meters arcs.now.survey.links.now bits.now }
 {
     onehot::clear_bits(plan);
+    // k numbers the link's arcs too, so used goes by it.
     for (k, link) in arcs.survey.links.iter().enumerate() {
         read_link(
             bits,

@@ -1,4 +1,5 @@
 // Whether bytes are a plan: one root, parents that are linked neighbours, no depth over D, and no meter with more than d neighbours.
+// That a plan has a byte for each meter stays a clause: a struct of a survey and a plan would be made for three short functions.
 ghost use Rattle.std.specs.Prelude.{MatchOption, ◌+◌, ◌≤◌, ◌<◌, true, false, ◌≡◌, length, take, eqb};
 ghost use Rattle.lists.specs.Tests.{all, from};
 ghost use Rattle.lists.specs.Sums.{sum_of, same, nth};
@@ -8,7 +9,7 @@ ghost use Rattle.tree.specs.Inner.{Counted};
 
 use links::{Link, Survey};
 
-// Whether u is the parent of meter v. Ends of links are meters, so their parents are read with no further test.
+/// Whether u is the parent of meter v. Ends of links are meters, so their parents are read with no further test.
 pub fn is_parent(plan: &[u8], u: u8, v: u8) -> bool
     requires { (1 ≤ v) × (v ≤ length plan.now) }
     ensures { result ≡ eqb (nth plan.now v) u }
@@ -38,7 +39,7 @@ fn is_used(plan: &[u8], link: &Link) -> bool
     is_parent(plan, link.v, link.u) || is_parent(plan, link.u, link.v)
 }
 
-// The weight of the tree: of the links that join a meter to its parent.
+/// The weight of the tree: of the links that join a meter to its parent.
 pub fn tree_weight(survey: &Survey, plan: &[u8]) -> u64
     requires { length plan.now ≡ survey.now.meters }
     ensures { result ≡ tree_weight survey.now.links.now plan.now }
@@ -56,25 +57,24 @@ pub fn tree_weight(survey: &Survey, plan: &[u8]) -> u64
 fn depth_bit(plan: &[u8], v: usize, meters: usize) -> usize
     ensures { (result ≡ bit_of_depth (depth_of plan.now meters v)) × (result ≤ meters) }
 {
-    match spanning::depth_of(plan, v, meters) {
-        Some(depth) => depth + 1,
-        None => 0,
-    }
+    spanning::depth_of(plan, v, meters).map_or(0, |depth| depth + 1)
 }
 
 // The bits of all depths, of each meter in its place; a byte holds each, and 0 where it is none, as the code of choices has it.
+// Fixed places, cut by the caller: the library has no heap.
 fn depth_bits(plan: &[u8], meters: usize) -> [u8; 256]
     requires { meters ≤ 48 }
     ensures { (length result ≡ 256) × (take meters result ≡ depth_choices meters plan.now) }
 {
     let mut depths = [0; 256];
+    // By index: what a zipped `iter_mut` wrote is not told to a proof.
     for v in 0..meters {
         depths[v] = depth_bit(plan, v + 1, meters) as u8;
     }
     depths
 }
 
-// How many neighbours meter v has in the tree: its children, and its parent if it has one.
+/// How many neighbours meter v has in the tree: its children, and its parent if it has one.
 pub fn neighbours_at(children: &[u64], plan: &[u8], v: usize) -> u64
     requires { Counted plan.now children.now × (v < 256) }
     ensures { (result ≡ neighbours (length plan.now) plan.now v) × (result ≤ 49) }
@@ -90,10 +90,11 @@ fn within_limit(children: &[u64], plan: &[u8], d: usize) -> bool
     requires { Counted plan.now children.now }
     ensures { result ≡ few_neighbours (length plan.now) d plan.now }
 {
+    // From 0: a proof has no law of what `..=` yields to `all`.
     (0..plan.len()).all(|v| neighbours_at(children, plan, v + 1) as usize <= d)
 }
 
-// Where the bytes are a plan, the bits of its depths. With one root, all parents are linked neighbours exactly where meters - 1 links join a meter to its parent. Depths come last, since they take a walk up from each meter; no depth exceeds D, and none is that of a ring, where each bit is one of 1..D+1.
+/// Where the bytes are a plan, the bits of its depths. With one root, all parents are linked neighbours exactly where meters - 1 links join a meter to its parent. Depths come last, since they take a walk up from each meter; no depth exceeds D, and none is that of a ring, where each bit is one of 1..D+1.
 pub fn plan_depths(survey: &Survey, d: usize, plan: &[u8]) -> Option<[u8; 256]>
     ensures { MatchOption result (is_plan survey.now.meters d survey.now.links.now plan.now ≡ false) (λ depths. (is_plan survey.now.meters d survey.now.links.now plan.now ≡ true) × (length depths ≡ 256) × (take survey.now.meters depths ≡ depth_choices survey.now.meters plan.now)) }
 {

@@ -23,13 +23,13 @@ impl<'a> Tree<'a> {
     ghost use Rattle.spanning.specs.Parents.{deepest};
     ghost use Rattle.tree.specs.Formula.{within_limits, penalty};
 
-    /// The least neighbour limit,
+    /// The least neighbour limit.
     pub const MIN: u64 = 1;
 
-    /// and the greatest.
+    /// The greatest neighbour limit.
     pub const MAX: u64 = 47;
 
-    /// A single meter has no neighbour, so its neighbour term can't be met.
+    /// The fewest meters: a single one has no neighbour, so its neighbour term can't be met.
     pub const FEWEST_METERS: u64 = 2;
 
     /// Whether d and the number of meters are within the limits.

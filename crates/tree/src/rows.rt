@@ -44,7 +44,7 @@ fn add_arc_part(arcs: &Arcs, row: &mut [i64], i: usize, place: Place, penalty: u
     arcs::rows::add_weights(row, i, place);
 }
 
-// Row i, which fills the slice, for any D.
+/// Row i, which fills the slice, for any D.
 pub fn row_into(neighbours: &Neighbours, row: &mut [i64], i: usize, penalty: u64)
     requires { (1 ≤ neighbours.now.d) × (penalty ≤ 20000000) × (i + length row.old ≡ arcs_end neighbours.now.arcs.survey.meters neighbours.now.arcs.deepest (length neighbours.now.arcs.survey.links.now) + neighbours.now.arcs.survey.meters * neighbours.now.d) × (1 ≤ length row.old) }
     ensures { row.new ≡ row_of (formula_to neighbours.now.arcs.deepest penalty neighbours.now.arcs.survey.meters neighbours.now.d neighbours.now.arcs.survey.links.now) (arcs_end neighbours.now.arcs.survey.meters neighbours.now.arcs.deepest (length neighbours.now.arcs.survey.links.now) + neighbours.now.arcs.survey.meters * neighbours.now.d) i }

@@ -8,7 +8,7 @@ ghost use Rattle.tree.specs.Inner.{broken_choices, broken_arcs};
 
 use neighbours::Neighbours;
 
-// How far the bits are from one root, and from one depth and one number of neighbours for each meter.
+/// How far the bits are from one root, and from one depth and one number of neighbours for each meter.
 pub fn broken_choices(neighbours: &Neighbours, bits: &[u8]) -> u64
     requires { Assignment (arcs_end neighbours.now.arcs.survey.meters neighbours.now.arcs.deepest (length neighbours.now.arcs.survey.links.now) + neighbours.now.arcs.survey.meters * neighbours.now.d) bits.now }
     ensures { (result ≡ broken_choices neighbours.now.arcs.survey.meters neighbours.now.arcs.deepest neighbours.now.d (bits_of neighbours.now.arcs.survey.meters neighbours.now.arcs.deepest (length neighbours.now.arcs.survey.links.now) neighbours.now.d bits.now)) × (result ≤ 2 ^ 32) }
@@ -19,7 +19,7 @@ pub fn broken_choices(neighbours: &Neighbours, bits: &[u8]) -> u64
     roots + depths + counts
 }
 
-// How far the arcs are from those into each meter at its depth, and from as many at each meter as it has neighbours. How many bits each link's arcs have set is lent.
+/// How far the arcs are from those into each meter at its depth, and from as many at each meter as it has neighbours. How many bits each link's arcs have set is lent.
 pub fn broken_arcs(neighbours: &Neighbours, bits: &[u8], used: &[u8]) -> u64
     requires { Assignment (arcs_end neighbours.now.arcs.survey.meters neighbours.now.arcs.deepest (length neighbours.now.arcs.survey.links.now) + neighbours.now.arcs.survey.meters * neighbours.now.d) bits.now × Used neighbours.now.arcs.survey.meters neighbours.now.arcs.deepest (length neighbours.now.arcs.survey.links.now) bits.now used.now }
     ensures { (result ≡ broken_arcs neighbours.now.arcs.survey.meters neighbours.now.arcs.deepest neighbours.now.d (arcs neighbours.now.arcs.survey.links.now) (bits_of neighbours.now.arcs.survey.meters neighbours.now.arcs.deepest (length neighbours.now.arcs.survey.links.now) neighbours.now.d bits.now)) × (result ≤ 2 ^ 34) }

@@ -1,11 +1,11 @@
-// Calls that may be refused: image, kind, parameter, margin, row, lengths and bits are each drawn right or wrong. Every call has to give the number that comes first, and to alter nothing where it is refused.
+// Calls that may be refused: image, kind, parameter, margin, row, lengths and bits are each drawn right or wrong. Every call has to give the refusal that comes first, and to alter nothing where it is refused.
 use crate::calls::Ask;
 use crate::cases::Case;
 use crate::draws::Draws;
 use crate::edits::{IMAGE_LEN, Twins};
-use crate::slices::{List, front, front_mut};
-use crate::{Run, assignments, candidates, rows};
-use reference::Site;
+use crate::slices::{LIST_LEN, List, front, front_mut};
+use crate::{Run, assignments};
+use reference::{ROOM, Site};
 
 /// How many times all calls are made of each site.
 const ASKS: usize = 300;
@@ -76,13 +76,12 @@ const BROKEN: [usize; 8] = [0, 1, 7, 8, 15, 22, 23, 2063];
 const LISTS: [usize; 4] = [4681, 5201, 4680, 18050];
 
 /// What is done to the image.
-#[derive(Clone, Copy)]
+#[derive(Debug, Clone, Copy, PartialEq, Eq)]
 enum Damage {
     /// A byte breaks a rule.
     Byte(usize),
     /// The last byte is left out.
     Cut,
-    None,
 }
 
 /// One of the margins.
@@ -108,13 +107,10 @@ fn draw_ask(draws: &mut Draws) -> Ask {
 }
 
 /// What is done to the image: nothing in 23 of 32 draws.
-fn draw_damage(draws: &mut Draws) -> Damage {
+fn draw_damage(draws: &mut Draws) -> Option<Damage> {
     match draws.below(32) {
-        8 => Damage::Cut,
-        way => match BROKEN.get(way) {
-            Some(at) => Damage::Byte(*at),
-            None => Damage::None,
-        },
+        8 => Some(Damage::Cut),
+        way => BROKEN.get(way).map(|at| Damage::Byte(*at)),
     }
 }
 
@@ -142,7 +138,7 @@ fn draw_length(draws: &mut Draws, right: usize) -> usize {
 
 /// One of the lists.
 fn draw_list(draws: &mut Draws, meters: usize) -> List {
-    let mut list = [0; 8];
+    let mut list = [0; LIST_LEN];
     reference::list_number(LISTS[draws.below(4)], 8, front_mut(&mut list, meters));
     list
 }
@@ -156,40 +152,44 @@ fn draw_value(draws: &mut Draws) -> u8 {
     }
 }
 
-/// A row.
-fn ask_row(case: &Case<'_>, run: &mut Run) {
-    let row = draw_row(&mut run.draws, case.bits);
-    let lent = draw_length(&mut run.draws, rows::row_length(case, row));
-    rows::compare_row(case, row, lent, &mut run.counts);
-}
-
-/// Bits, one of which has the value drawn.
-fn ask_bits(case: &Case<'_>, run: &mut Run) {
-    let mut bits = assignments::draw_bits(case.bits, &mut run.draws);
-    let at = run.draws.below(case.bits);
-    let value = draw_value(&mut run.draws);
-    if at < bits.len() {
-        bits[at] = value;
+impl Case<'_> {
+    /// A row.
+    fn ask_row(&self, run: &mut Run) {
+        let row = draw_row(&mut run.draws, self.bits);
+        // No numbers are right where there is no such row.
+        let right = self.row_length(row).unwrap_or(0);
+        let lent = draw_length(&mut run.draws, right);
+        self.compare_row(row, lent, &mut run.counts);
     }
-    let asked = Case {
-        flawed: value != 1,
-        ..*case
-    };
-    assignments::compare(&asked, &bits, &mut run.counts);
-}
 
-/// A list, and bits.
-fn ask_plan(case: &Case<'_>, run: &mut Run) {
-    let lent_bits = draw_length(&mut run.draws, case.bits);
-    let lent_plan = draw_length(&mut run.draws, case.site.meters());
-    let asked = Case {
-        lent_bits,
-        lent_plan,
-        ..*case
-    };
-    let list = draw_list(&mut run.draws, case.site.meters());
-    candidates::compare_list(&asked, &list, &mut run.counts);
-    ask_bits(&asked, run);
+    /// Bits, one of which has the value drawn.
+    fn ask_bits(&self, run: &mut Run) {
+        let mut bits = assignments::draw_bits(self.bits, &mut run.draws);
+        let at = run.draws.below(self.bits);
+        let value = draw_value(&mut run.draws);
+        if at < bits.len() {
+            bits[at] = value;
+        }
+        let asked = Case {
+            flawed: value != 1,
+            ..*self
+        };
+        asked.compare_assignment(&bits, &mut run.counts);
+    }
+
+    /// A list, and bits.
+    fn ask_plan(&self, run: &mut Run) {
+        let lent_bits = draw_length(&mut run.draws, self.bits);
+        let lent_plan = draw_length(&mut run.draws, self.site.meters());
+        let asked = Case {
+            lent_bits,
+            lent_plan,
+            ..*self
+        };
+        let list = draw_list(&mut run.draws, self.site.meters());
+        asked.compare_list(&list, &mut run.counts);
+        asked.ask_bits(run);
+    }
 }
 
 /// Draws one ask and makes all calls, with the image as it is, with a byte that breaks a rule, or without its last byte.
@@ -198,16 +198,19 @@ fn ask_once(image: &[u8; IMAGE_LEN], site: &Site, run: &mut Run) {
     let mut length = IMAGE_LEN;
     let damage = draw_damage(&mut run.draws);
     match damage {
-        Damage::Byte(at) => copy[at % IMAGE_LEN] = 255,
-        Damage::Cut => length = IMAGE_LEN - 1,
-        Damage::None => (),
+        Some(Damage::Byte(at)) => copy[at % IMAGE_LEN] = 255,
+        Some(Damage::Cut) => length = IMAGE_LEN - 1,
+        None => (),
     }
     let ask = draw_ask(&mut run.draws);
-    let valid = matches!(damage, Damage::None);
-    let case = Case::new(front(&copy, length), site, ask, valid, 128);
-    rows::compare_table(&case, &mut run.counts);
-    ask_row(&case, run);
-    ask_plan(&case, run);
+    let whole = Case::new(front(&copy, length), site, ask, ROOM);
+    let case = match damage {
+        Some(_) => whole.damaged(),
+        None => whole,
+    };
+    case.compare_table(&mut run.counts);
+    case.ask_row(run);
+    case.ask_plan(run);
 }
 
 /// All asks of a site.

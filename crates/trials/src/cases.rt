@@ -1,10 +1,10 @@
 // The cases of a site. One with few bits is compared at every assignment, a larger one at the codes of all plans, these with one bit flipped, and random assignments.
 use crate::assignments::Least;
-use crate::calls::Ask;
+use crate::calls::{Ask, Refusal};
 use crate::counts::{Counts, Subject};
 use crate::edits::Twins;
 use crate::slices::front;
-use crate::{Run, asks, assignments, candidates, refusals, rows};
+use crate::{Run, asks};
 use reference::{Kind, Site};
 
 /// What is asked for one site, and what is lent to the calls.
@@ -16,10 +16,11 @@ pub struct Case<'a> {
     /// the kind, where it is none that is refused
     pub kind: Option<Kind>,
     /// the bit count and the penalty, as the reference says
+    // 0 and no Option where the kind is refused: such an ask is compared as well, and its draws go by the bit count; its penalty is not looked at.
     pub bits: usize,
     pub penalty: u64,
-    /// whether image and ask are accepted, or the refusal's number
-    pub accepted: Result<(), u64>,
+    /// whether image and ask are accepted, or why not
+    pub accepted: Result<(), Refusal>,
     /// how many bits and how many bytes of a plan are lent
     pub lent_bits: usize,
     pub lent_plan: usize,
@@ -30,8 +31,8 @@ pub struct Case<'a> {
 }
 
 impl<'a> Case<'a> {
-    /// The case of what is asked for, with what it needs lent; small where it has at most so many bits.
-    pub fn new(image: &'a [u8], site: &'a Site, ask: Ask, valid: bool, most: usize) -> Case<'a> {
+    /// The case of what is asked for, of an image that is accepted, with what it needs lent; small where it has at most so many bits.
+    pub fn new(image: &'a [u8], site: &'a Site, ask: Ask, most: usize) -> Case<'a> {
         let kind = Kind::new(ask.kind, ask.parameter, site.meters());
         let bits = bits_of(site, ask, kind);
         Case {
@@ -41,7 +42,7 @@ impl<'a> Case<'a> {
             kind,
             bits,
             penalty: kind.map_or(0, |kind| site.penalty(kind, ask.margin)),
-            accepted: accepted(valid, kind, ask.margin),
+            accepted: accepted(kind, ask.margin),
             lent_bits: bits,
             lent_plan: site.meters(),
             flawed: false,
@@ -49,9 +50,18 @@ impl<'a> Case<'a> {
         }
     }
 
+    /// The same with an image that is refused, which comes before all other refusals.
+    pub fn damaged(self) -> Case<'a> {
+        Case {
+            accepted: Err(Refusal::Image),
+            ..self
+        }
+    }
+
     /// The energy of an assignment, of as many bits as there are; 0 where the kind is refused.
     pub fn energy_of(&self, bits: &[u8]) -> u64 {
         let bits = front(bits, self.bits);
+        // 0 and no Option: an ask that is refused is compared as well, and its energy is not looked at.
         match self.kind {
             Some(kind) => self.site.energy(kind, self.ask.margin, bits),
             None => 0,
@@ -64,18 +74,18 @@ impl<'a> Case<'a> {
     }
 
     /// What energies, codes and decoding answer: refused are image and ask, a length, and what is refused later.
-    pub fn answer(&self, lent_plan: usize, later: Result<(), u64>) -> Result<(), u64> {
+    pub fn answer(&self, lent_plan: usize, later: Result<(), Refusal>) -> Result<(), Refusal> {
         self.accepted?;
         if self.lent_bits != self.bits || lent_plan != self.site.meters() {
-            return Err(refusals::LENGTH);
+            return Err(Refusal::Length);
         }
         later
     }
 
     /// Whether no bit has a value that no bit has.
-    pub fn unflawed(&self) -> Result<(), u64> {
+    pub fn unflawed(&self) -> Result<(), Refusal> {
         if self.flawed {
-            Err(refusals::BIT_VALUE)
+            Err(Refusal::NotBits)
         } else {
             Ok(())
         }
@@ -115,59 +125,59 @@ impl<'a> Case<'a> {
             _ => true,
         }
     }
+
+    /// All that there is to compare.
+    pub fn compare(&self, run: &mut Run) {
+        self.compare_rows(&mut run.counts);
+        let plans = self.compare_lists(&mut run.counts);
+        run.counts.compared(Subject::Least, self.tree_agrees(plans));
+        if self.small {
+            let all = self.compare_all(&mut run.counts);
+            run.counts
+                .compared(Subject::Least, self.least_agrees(all, plans));
+        } else {
+            self.compare_some(run);
+        }
+    }
 }
 
 /// How many bits there are. A kind that is refused has no bit count: the draws for it go by the bits that a tree has without those that count neighbours, or by none.
 fn bits_of(site: &Site, ask: Ask, kind: Option<Kind>) -> usize {
     match kind {
         Some(kind) => site.bit_count(kind),
+        // 0 and no Option: a refused ask is drawn for as well, and its draws go by these numbers.
         None if ask.kind == 3 => site.bit_count(Kind::Tree(0)),
         None => 0,
     }
 }
 
-/// Whether image and ask are accepted: "18 margin too large, after 7". No small site has more than 8,192 bits, so 8 never applies; large.rt has those that have.
-fn accepted(valid: bool, kind: Option<Kind>, margin: u64) -> Result<(), u64> {
-    if !valid {
-        return Err(refusals::IMAGE);
-    }
+/// Whether an ask is accepted: "18 margin too large, after 7". No small site has more than 8,192 bits, so 8 never applies; large.rt has those that have.
+fn accepted(kind: Option<Kind>, margin: u64) -> Result<(), Refusal> {
     if kind.is_none() {
-        return Err(refusals::KIND);
+        return Err(Refusal::Kind);
     }
     if !reference::allows_margin(margin) {
-        return Err(refusals::MARGIN);
+        return Err(Refusal::Margin);
     }
     Ok(())
 }
 
-/// A case.
-pub fn compare_case(case: &Case<'_>, run: &mut Run) {
-    rows::compare_rows(case, &mut run.counts);
-    let plans = candidates::compare_lists(case, &mut run.counts);
-    run.counts.compared(Subject::Least, case.tree_agrees(plans));
-    if case.small {
-        let all = assignments::compare_all(case, &mut run.counts);
-        run.counts
-            .compared(Subject::Least, case.least_agrees(all, plans));
-    } else {
-        assignments::compare_some(case, run);
-    }
-}
-
-/// All cases of a site: kinds 0 to 3, parameters 0 to 63, of which the refused ones have a number alone, each with a drawn margin that is accepted.
+/// All cases of a site: kinds 0 to 3, parameters 0 to 63, of which the refused ones have a refusal alone, each with a drawn margin that is accepted.
 pub fn compare_cases(twins: &Twins, most: usize, run: &mut Run) {
     let site = twins.site();
-    for k in 0..256 {
-        let margin = asks::draw_accepted_margin(&mut run.draws);
-        let ask = Ask {
-            kind: k / 64,
-            parameter: k % 64,
-            margin,
-        };
-        let case = Case::new(&twins.image, &site, ask, true, most);
-        rows::compare_table(&case, &mut run.counts);
-        if case.is_chosen() {
-            compare_case(&case, run);
+    for kind in 0..4 {
+        for parameter in 0..64 {
+            let margin = asks::draw_accepted_margin(&mut run.draws);
+            let ask = Ask {
+                kind,
+                parameter,
+                margin,
+            };
+            let case = Case::new(&twins.image, &site, ask, most);
+            case.compare_table(&mut run.counts);
+            if case.is_chosen() {
+                case.compare(run);
+            }
         }
     }
 }

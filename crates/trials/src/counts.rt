@@ -1,8 +1,9 @@
 // How much was compared and how much differs.
+use crate::calls::Refusal;
 use std::{fmt, io};
 
-/// The subjects. A call that returns a refusal's number is counted by the number that is expected, too.
-#[derive(Clone, Copy)]
+/// The subjects. A call that may be refused is counted by the number of the refusal that is expected, too, 0 for none.
+#[derive(Debug, Clone, Copy, PartialEq, Eq)]
 pub enum Subject {
     Sites,
     Edits,
@@ -76,7 +77,8 @@ impl fmt::Display for Tally {
     }
 }
 
-/// What was compared of each subject, and of each number, up to 18, the highest of a refusal; 0 is none.
+/// What was compared of each subject, and of each number, up to 18, the highest of a refusal.
+// 0 is no refusal, as the stored output counts it.
 #[derive(Drop)]
 pub struct Counts {
     subjects: [Tally; 9],
@@ -97,13 +99,15 @@ impl Counts {
         self.subjects[subject as usize].add(agrees);
     }
 
-    /// One call of a subject that is expected to succeed, or to be refused with a number.
-    pub fn called(&mut self, subject: Subject, expected: Result<(), u64>, agrees: bool) {
+    /// One call of a subject that is expected to succeed, or to be refused.
+    pub fn called(&mut self, subject: Subject, expected: Result<(), Refusal>, agrees: bool) {
         self.compared(subject, agrees);
-        let number = expected.err().unwrap_or(0) as usize;
-        if number < self.numbers.len() {
-            self.numbers[number].add(agrees);
-        }
+        // 0 is no refusal, as the stored output counts it.
+        let number = match expected {
+            Ok(()) => 0,
+            Err(refusal) => refusal.number() as usize,
+        };
+        self.numbers[number].add(agrees);
     }
 
     /// Prints a line for each subject, and for each number of which something was compared: not every number up to the highest is given.

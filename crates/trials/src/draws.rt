@@ -2,6 +2,7 @@
 ghost use Rattle.std.specs.Prelude.{◌<◌};
 
 /// A generator of random numbers.
+// A draw is the switch where one is matched on: so many of n go each way.
 #[derive(Clone, Copy)]
 pub struct Draws {
     seed: u32,

@@ -1,5 +1,5 @@
 // Edits of a site, of the image and of the matrix of matrix.rt, and the comparison of the two after each.
-use crate::calls;
+use crate::calls::{self, Refusal};
 use crate::counts::{Counts, Subject};
 use crate::matrix::Matrix;
 use crate::slices::front;
@@ -9,7 +9,7 @@ use reference::Site;
 pub const IMAGE_LEN: usize = 2064;
 
 /// One edit: a begin, or it takes the link of u and v out, or puts it in.
-#[derive(Clone, Copy)]
+#[derive(Debug, Clone, Copy, PartialEq, Eq)]
 pub enum Edit {
     Begin { meters: usize },
     Remove { u: usize, v: usize },
@@ -41,7 +41,7 @@ impl Twins {
     }
 
     /// Whether the library's edit answers as expected, and alters nothing where it is refused.
-    fn edit_agrees(&mut self, edit: Edit, expected: Result<(), u64>) -> bool {
+    fn edit_agrees(&mut self, edit: Edit, expected: Result<(), Refusal>) -> bool {
         let old = self.image;
         calls::edit(&mut self.image, edit) == expected && (expected.is_ok() || self.image == old)
     }

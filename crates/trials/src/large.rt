@@ -1,9 +1,9 @@
 // Two large sites, with 4,000 random edits each, whose draws begin with the same seed. Every hundred edits the bit counts of all kinds are compared too: no small site has more than 8,192 bits, and large ones have more or less.
-use crate::calls::{self, Ask};
+use crate::calls::{self, Ask, Refusal};
 use crate::counts::{Counts, Subject};
 use crate::draws::Draws;
 use crate::edits::{Edit, Twins};
-use crate::{Run, asks, refusals};
+use crate::{Run, asks};
 use reference::Kind;
 
 /// How many edits are made of each site.
@@ -33,16 +33,16 @@ fn draw_large(draws: &mut Draws, meters: usize, least: usize) -> Edit {
 }
 
 /// The bit count of what is asked for, or its refusal.
-fn bit_count(meters: usize, links: usize, ask: Ask) -> Result<usize, u64> {
-    let kind = Kind::new(ask.kind, ask.parameter, meters).ok_or(refusals::KIND)?;
+fn bit_count(meters: usize, links: usize, ask: Ask) -> Result<usize, Refusal> {
+    let kind = Kind::new(ask.kind, ask.parameter, meters).ok_or(Refusal::Kind)?;
     if !reference::allows_margin(ask.margin) {
-        return Err(refusals::MARGIN);
+        return Err(Refusal::Margin);
     }
     let bits = kind.bits_of(meters, links);
     if bits <= MOST_BITS {
         Ok(bits)
     } else {
-        Err(refusals::BITS)
+        Err(Refusal::Bits)
     }
 }
 
@@ -56,14 +56,16 @@ fn compare_count(twins: &Twins, links: usize, ask: Ask, counts: &mut Counts) {
 /// Those of kinds 0 to 3 with parameters 0 to 63, each with a drawn margin.
 fn compare_counts(twins: &Twins, run: &mut Run) {
     let links = twins.matrix.count();
-    for k in 0..256 {
-        let margin = asks::draw_margin(&mut run.draws);
-        let ask = Ask {
-            kind: k / 64,
-            parameter: k % 64,
-            margin,
-        };
-        compare_count(twins, links, ask, &mut run.counts);
+    for kind in 0..4 {
+        for parameter in 0..64 {
+            let margin = asks::draw_margin(&mut run.draws);
+            let ask = Ask {
+                kind,
+                parameter,
+                margin,
+            };
+            compare_count(twins, links, ask, &mut run.counts);
+        }
     }
 }
 

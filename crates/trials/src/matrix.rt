@@ -1,9 +1,8 @@
-// A second implementation of a site, which shares nothing with `site`: the weights in a plain matrix, 0 where there is no link.
+// A second implementation of a site, which shares nothing with `site` but what a link and a refusal are called: the weights in a plain matrix, 0 where there is no link.
 ghost use Rattle.std.specs.Prelude.{◌<◌, ◌≤◌, IfSome};
 
-use crate::calls::Link;
+use crate::calls::{Link, Refusal};
 use crate::edits::Edit;
-use crate::refusals;
 use reference::{Site, Weights};
 
 /// The most meters, and the most links.
@@ -52,50 +51,47 @@ impl Matrix {
     {
         let least = u.min(v);
         let greatest = u.max(v);
-        if 1 <= least && least < greatest && greatest <= self.meters {
-            Some((least, greatest))
-        } else {
-            None
-        }
+        let are_ends = 1 <= least && least < greatest && greatest <= self.meters;
+        are_ends.then_some((least, greatest))
     }
 
     /// Begins anew, with no links.
-    fn begin(&mut self, meters: usize) -> Result<(), u64> {
+    fn begin(&mut self, meters: usize) -> Result<(), Refusal> {
         if meters < 1 || METERS < meters {
-            return Err(refusals::KIND);
+            return Err(Refusal::Kind);
         }
         *self = Matrix::new(meters);
         Ok(())
     }
 
     /// Takes the link of u and v out.
-    fn remove(&mut self, u: usize, v: usize) -> Result<(), u64> {
-        let (u, v) = self.ends(u, v).ok_or(refusals::ENDS)?;
+    fn remove(&mut self, u: usize, v: usize) -> Result<(), Refusal> {
+        let (u, v) = self.ends(u, v).ok_or(Refusal::Ends)?;
         if self.weights[u][v] == 0 {
-            return Err(refusals::ABSENT);
+            return Err(Refusal::Absent);
         }
         self.weights[u][v] = 0;
         Ok(())
     }
 
     /// Puts the link of u and v in.
-    fn add(&mut self, u: usize, v: usize, weight: u16) -> Result<(), u64> {
-        let (u, v) = self.ends(u, v).ok_or(refusals::ENDS)?;
+    fn add(&mut self, u: usize, v: usize, weight: u16) -> Result<(), Refusal> {
+        let (u, v) = self.ends(u, v).ok_or(Refusal::Ends)?;
         if weight == 0 {
-            return Err(refusals::WEIGHT);
+            return Err(Refusal::Weight);
         }
         if self.weights[u][v] != 0 {
-            return Err(refusals::PRESENT);
+            return Err(Refusal::Present);
         }
         if self.count() >= LINKS {
-            return Err(refusals::FULL);
+            return Err(Refusal::Full);
         }
         self.weights[u][v] = weight;
         Ok(())
     }
 
-    /// Makes an edit, or gives the number with which it is to be refused.
-    pub fn edit(&mut self, edit: Edit) -> Result<(), u64> {
+    /// Makes an edit, or gives what it is to be refused for.
+    pub fn edit(&mut self, edit: Edit) -> Result<(), Refusal> {
         match edit {
             Edit::Begin { meters } => self.begin(meters),
             Edit::Remove { u, v } => self.remove(u, v),

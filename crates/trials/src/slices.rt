@@ -1,7 +1,11 @@
 // Front parts of slices, and what buffers hold before a call.
 
-/// Room for the bytes of a plan. No small site has as many meters: a length that is too long can be lent, too.
-pub type List = [u8; 8];
+/// How many bytes of a plan a list has room for. No small site has as many meters: a length that is too long can be lent, too.
+pub const LIST_LEN: usize = 8;
+
+// Fixed places: a `Vec` would want an allocator all the way down.
+/// Room for the bytes of a plan.
+pub type List = [u8; LIST_LEN];
 
 /// What buffers hold before a call, to see what the call leaves.
 pub const PATTERN: u8 = 170;

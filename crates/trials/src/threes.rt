@@ -1,6 +1,6 @@
 // Trees of three meters, with each set of their three links, at every assignment: few random sites have a tree and a table that is small enough for that.
 use crate::calls::Ask;
-use crate::cases::{self, Case};
+use crate::cases::Case;
 use crate::edits::{Edit, Twins};
 use crate::{Run, asks};
 use reference::Site;
@@ -22,7 +22,7 @@ fn compare_limit(image: &[u8], site: &Site, d: u64, run: &mut Run) {
         parameter: d,
         margin,
     };
-    cases::compare_case(&Case::new(image, site, ask, true, 18), run);
+    Case::new(image, site, ask, 18).compare(run);
 }
 
 /// One set of links, by its number.

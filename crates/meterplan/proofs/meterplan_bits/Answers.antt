@@ -6,4 +6,4 @@ use Rattle.meterplan.proofs.meterplan_bits.Goals as goal
 
 pub returns-clause-number : goal.returns-clause-number
 unfolding bits_answer_in
-returns-clause-number c = c.number_of.ensures _ _ (counted _ (λ x y l p. search (rules, of_calls)) _ _ _ _ (IfOk-weaker _ (λ (x : ℕ). x ≤ 8192) (λ (x : ℕ). x < 9223372036854775808) (λ x h. omega arith) c.bit_count.ensures.few) c.map.ensures.cases c.bit_count.ensures.answer)
+returns-clause-number c = c.from.ensures _ _ (counted _ (λ x y l p. search (rules, of_calls)) _ _ _ _ (IfOk-weaker _ (λ (x : ℕ). x ≤ 8192) (λ (x : ℕ). x < 9223372036854775808) (λ x h. omega arith) c.bit_count.ensures.few) c.map.ensures.cases c.bit_count.ensures.answer)

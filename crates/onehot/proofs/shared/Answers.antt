@@ -1,4 +1,4 @@
-use Rattle.std.proofs.Common.{◌*◌, ◌∙◌}
+use Rattle.std.proofs.Common.{rules, tests, ◌*◌, ◌∙◌}
 use Rattle.onehot.proofs.Turns.{cuts_sum}
 use Rattle.onehot.proofs.shared.Goals as goal
 
@@ -6,4 +6,4 @@ pub returns : goal.returns
 returns c =
     let a = c.args in
     let s = c.requires in
-    c.overlap.ensures ∙ cuts_sum a.n a.u a.v a.bits.now c.part_of.result.now c.part_of-2.result.now c.part_of.ensures c.part_of-2.ensures s.0 s.1 s.2 s.3 ◌*◌
+    c.pair_sum.ensures ◌*◌ (λ i r h p. search (rules, tests)) ∙ cuts_sum a.n a.u a.v a.bits.now c.part_of.result.now c.part_of-2.result.now c.part_of.ensures c.part_of-2.ensures s.0 s.1 s.2 s.3 ◌*◌

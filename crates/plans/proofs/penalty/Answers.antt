@@ -1,11 +1,8 @@
-use Rattle.std.proofs.lemmas.Result.{err_from_is_err_and}
-use Rattle.plans.proofs.Calling.{penalty_refused, penalty_given, penalty_below}
+use Rattle.plans.proofs.Calling.{exit_is, penalty_refused, penalty_given, penalty_below}
 use Rattle.plans.proofs.penalty.Goals as goal
 
 pub returns-in_err-posed-clause-answer : goal.returns-in_err-posed-clause-answer
-returns-in_err-posed-clause-answer c =
-    let q = err_from_is_err_and c.from_residual.result c.from_residual.ensures.1 in
-    rw (q.1, q.2) (penalty_refused _ _ _ c.in_err-posed.ensures)
+returns-in_err-posed-clause-answer c = rw (exit_is _ c.from_residual.ensures.1) (penalty_refused _ _ _ c.in_err-posed.ensures)
 
 pub returns-clause-answer : goal.returns-clause-answer
 returns-clause-answer c = penalty_given _ _ c.in_ok-posed.ensures.0 _ c.in_ok-posed.ensures.1 _ c.penalty.ensures

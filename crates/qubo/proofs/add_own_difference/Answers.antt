@@ -15,8 +15,8 @@ use Rattle.qubo.proofs.add_own_difference.Goals as goal
 pub overflow_mul-same : goal.overflow_mul-same
 overflow_mul-same c = rw (to_z-of_z c.ranges.a) (fits_twice _ c.args.a tt (difference_factor c.args.a c.args.own c.args.other c.args.i c.args.t c.args.row.now c.requires.number.0 c.requires.run_below.2))
 
-pub overflow_sub-opposite : goal.overflow_sub-opposite
-overflow_sub-opposite c =
+pub overflow_sub-same : goal.overflow_sub-same
+overflow_sub-same c =
     rw (to_z-of_z c.ranges.a, to_z-of_z (fits_twice 2 c.args.a tt (difference_factor c.args.a c.args.own c.args.other c.args.i c.args.t c.args.row.now c.requires.number.0 c.requires.run_below.2)))
     (fits_less_twice _ c.args.a tt (difference_factor c.args.a c.args.own c.args.other c.args.i c.args.t c.args.row.now c.requires.number.0 c.requires.run_below.2))
 

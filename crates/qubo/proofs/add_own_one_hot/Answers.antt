@@ -15,8 +15,8 @@ use Rattle.qubo.proofs.Runs.{number_inside, number_step, later_below, run_same_t
 use Rattle.qubo.proofs.Turns.{fits_less, fits_twice, less_abs, twice_abs, one_hot_factor, one_hot_parts, empty_run, first_room, second_room}
 use Rattle.qubo.proofs.add_own_one_hot.Goals as goal
 
-pub overflow_sub-less : goal.overflow_sub-less
-overflow_sub-less c = rw (to_z-of_z c.ranges.a) (fits_less c.args.a (one_hot_factor c.args.a c.args.run c.args.row.now c.requires.2))
+pub overflow_sub-a : goal.overflow_sub-a
+overflow_sub-a c = rw (to_z-of_z c.ranges.a) (fits_less c.args.a (one_hot_factor c.args.a c.args.run c.args.row.now c.requires.2))
 
 pub overflow_mul-twice : goal.overflow_mul-twice
 overflow_mul-twice c = rw (to_z-of_z c.ranges.a) (fits_twice _ c.args.a tt (one_hot_factor c.args.a c.args.run c.args.row.now c.requires.2))

@@ -12,8 +12,8 @@ use Rattle.qubo.proofs.add_own_unequal.Goals as goal
 pub overflow_mul-twice : goal.overflow_mul-twice
 overflow_mul-twice c = rw (to_z-of_z c.ranges.v) (fits_twice _ c.args.v tt (unequal_factor c.args.v c.args.i c.args.j c.args.row.now c.requires.2))
 
-pub overflow_sub-minus : goal.overflow_sub-minus
-overflow_sub-minus c = rw (to_z-of_z c.ranges.v, to_z-of_z (fits_twice 2 c.args.v tt (unequal_factor c.args.v c.args.i c.args.j c.args.row.now c.requires.2))) (fits_less_twice _ c.args.v tt (unequal_factor c.args.v c.args.i c.args.j c.args.row.now c.requires.2))
+pub overflow_sub-twice : goal.overflow_sub-twice
+overflow_sub-twice c = rw (to_z-of_z c.ranges.v, to_z-of_z (fits_twice 2 c.args.v tt (unequal_factor c.args.v c.args.i c.args.j c.args.row.now c.requires.2))) (fits_less_twice _ c.args.v tt (unequal_factor c.args.v c.args.i c.args.j c.args.row.now c.requires.2))
 
 pub add_single-requires : goal.add_single-requires
 add_single-requires c =

@@ -1,17 +1,48 @@
-use lib.ListN.{length, get_or}
-use native.Mathlib.Omega.{arith}
-use Rattle.arcs.proofs.Summing.{gaps_start, gaps_next, gaps_end, bit_gap_steps}
+use Prim.Native.Nat.{◌+◌}
+use Rattle.std.proofs.Common.{length, length-append, arith}
+use Rattle.std.proofs.lemmas.Slice.Zip.{zip_turn, zip_end}
+use Rattle.arcs.proofs.Slices.{slice}
+use Rattle.arcs.proofs.Summing.{gaps_start, gaps_end, tails_length, tails_turn}
 use Rattle.arcs.proofs.sums.part_gaps.Goals as goal
 
-pub loop-t-init : goal.loop-t-init
-loop-t-init c = omega (arith, gaps_start c.args.part.now c.args.counts.now)
+pub loop-bit-init : goal.loop-bit-init
+loop-bit-init c = omega (arith, gaps_start c.args.part.now c.args.counts.now)
 
-pub loop-t-preserved : goal.loop-t-preserved
-loop-t-preserved c =
-    let l = c.loop-t in
-    omega (arith, bit_gap_steps (get_or c.args.part.now l.t 0) (get_or c.args.counts.now l.t 0) (c.requires.3 l.t) (c.requires.4 l.t (omega arith) (omega arith)), gaps_next c.args.part.now c.args.counts.now l.t (omega arith))
+pub overflow_sub-sum : goal.overflow_sub-sum
+overflow_sub-sum c =
+    let p = c.args.part.now in
+    let q = c.args.counts.now in
+    let l = c.loop-bit in
+    let t = zip_turn (slice p 1 (length p)) (slice q 1 (length q)) l.yielded c.into_iter-bit-iterator.result l.bit-iterator c.next.new.self c.next.result (cc) (cc) l.yielded_by _ c.in-Some.is c.next.ensures.steps in
+    let own = tails_length p q c.requires.0 c.requires.2 in
+    let turn = tails_turn p q c.requires.0 c.requires.2 c.requires.3 c.requires.4 (length l.yielded) c.in-Some.bit.now c.in-Some.count.now (omega (arith, t.0, own.0)) (t.2 0) (t.3 0) in
+    turn.2
+
+pub overflow_add-sum-in-loop-bit : goal.overflow_add-sum-in-loop-bit
+overflow_add-sum-in-loop-bit c =
+    let p = c.args.part.now in
+    let q = c.args.counts.now in
+    let l = c.loop-bit in
+    let t = zip_turn (slice p 1 (length p)) (slice q 1 (length q)) l.yielded c.into_iter-bit-iterator.result l.bit-iterator c.next.new.self c.next.result (cc) (cc) l.yielded_by _ c.in-Some.is c.next.ensures.steps in
+    let own = tails_length p q c.requires.0 c.requires.2 in
+    let turn = tails_turn p q c.requires.0 c.requires.2 c.requires.3 c.requires.4 (length l.yielded) c.in-Some.bit.now c.in-Some.count.now (omega (arith, t.0, own.0)) (t.2 0) (t.3 0) in
+    omega (arith, l.invariant.0, turn.3, t.0, own.0, c.requires.1)
+
+pub loop-bit-preserved : goal.loop-bit-preserved
+loop-bit-preserved c =
+    let p = c.args.part.now in
+    let q = c.args.counts.now in
+    let l = c.loop-bit in
+    let t = zip_turn (slice p 1 (length p)) (slice q 1 (length q)) l.yielded c.into_iter-bit-iterator.result l.bit-iterator c.next.new.self c.next.result (cc) (cc) l.yielded_by _ c.in-Some.is c.next.ensures.steps in
+    let own = tails_length p q c.requires.0 c.requires.2 in
+    let turn = tails_turn p q c.requires.0 c.requires.2 c.requires.3 c.requires.4 (length l.yielded) c.in-Some.bit.now c.in-Some.count.now (omega (arith, t.0, own.0)) (t.2 0) (t.3 0) in
+    rw length-append (omega (arith, l.invariant, turn.3, turn.4))
 
 pub returns : goal.returns
 returns c =
-    let l = c.loop-t in
-    (gaps_end c.args.part.now c.args.counts.now l.t (length c.args.part.now) l.sum (omega arith) l.invariant.1, omega arith)
+    let p = c.args.part.now in
+    let q = c.args.counts.now in
+    let l = c.loop-bit in
+    let own = tails_length p q c.requires.0 c.requires.2 in
+    let ended = zip_end (slice p 1 (length p)) (slice q 1 (length q)) l.yielded c.into_iter-bit-iterator.result l.bit-iterator c.next.new.self c.next.result (cc) (cc) l.yielded_by c.in-None.is c.next.ensures.steps in
+    (gaps_end p q (length l.yielded + 1) (length p) l.sum (omega (arith, ended, own)) l.invariant.1, omega (arith, l.invariant.0, ended, own, c.requires.1))

@@ -1,5 +1,6 @@
+use lib.ListN.{length}
 use Rattle.neighbours.proofs.DegreeSums.{Gathered}
 use Rattle.neighbours.proofs.degrees.gather_touches.Given as goal
 
-abbrev pub invariant-loop-k : goal.invariant-loop-k
-invariant-loop-k l = Gathered l.used l.survey.links.now l.k l.sums
+abbrev pub invariant-loop-link : goal.invariant-loop-link
+invariant-loop-link l = Gathered l.used l.survey.links.now (length l.yielded) l.sums

@@ -11,4 +11,4 @@ pub read_record-requires : goal.read_record-requires
 read_record-requires c = (c.requires, named_high _ (sym c.names_record.ensures ∙ c.if-not-names_record.false))
 
 pub returns : goal.returns
-returns c = holds_test _ _ _ _ _ (sym c.names_record.ensures ∙ c.if-not-names_record.false) c.read_record.ensures.0
+returns c = c.eq.ensures ∙ holds_test _ _ _ _ _ (sym c.names_record.ensures ∙ c.if-not-names_record.false) c.read_record.ensures.0

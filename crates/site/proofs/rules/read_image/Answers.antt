@@ -15,18 +15,18 @@ pub returns-then-count-gt-RECORDS : goal.returns-then-count-gt-RECORDS
 unfolding count
 returns-then-count-gt-RECORDS c = sym (valid_checks _) ∙ checks_count c.args.s.now c.if-s-ne-IMAGE_LEN.false (sym c.head_ok.ensures ∙ c.if-not-head_ok.false) (omega arith)
 
-pub returns-in_default : goal.returns-in_default
+pub returns-in_err-place : goal.returns-in_err-place
 unfolding byte
-returns-in_default c = image_bad _ _ _ c.args.a c.args.b c.if-s-ne-IMAGE_LEN.false (sym c.head_ok.ensures ∙ c.if-not-head_ok.false) c.read_word-count.ensures c.if-count-gt-RECORDS.false refl c.in_default.ensures (length-take-le _ _ (omega arith))
+returns-in_err-place c = rw c.from_residual.ensures (image_bad _ _ _ c.args.a c.args.b c.if-s-ne-IMAGE_LEN.false (sym c.head_ok.ensures ∙ c.if-not-head_ok.false) c.read_word-count.ensures c.if-count-gt-RECORDS.false refl c.in_err-place.ensures (length-take-le _ _ (omega arith)))
 
 pub returns-then-frees_ok : goal.returns-then-frees_ok
 unfolding byte
 returns-then-frees_ok c =
-    let v = sym (image_told _ _ _ _ _ c.if-s-ne-IMAGE_LEN.false (sym c.head_ok.ensures ∙ c.if-not-head_ok.false) c.read_word-count.ensures c.if-count-gt-RECORDS.false refl c.in-Some.ensures (length-take-le _ _ (omega arith)) c.frees_ok.ensures) ∙ c.if-frees_ok.true in
-    let r = image_read _ _ _ _ _ c.if-s-ne-IMAGE_LEN.false (sym c.head_ok.ensures ∙ c.if-not-head_ok.false) c.read_word-count.ensures c.if-count-gt-RECORDS.false refl c.in-Some.ensures (length-take-le _ _ (omega arith)) v in
+    let v = sym (image_told _ _ _ _ _ c.if-s-ne-IMAGE_LEN.false (sym c.head_ok.ensures ∙ c.if-not-head_ok.false) c.read_word-count.ensures c.if-count-gt-RECORDS.false refl c.in_ok-place.ensures (length-take-le _ _ (omega arith)) c.frees_ok.ensures) ∙ c.if-frees_ok.true in
+    let r = image_read _ _ _ _ _ c.if-s-ne-IMAGE_LEN.false (sym c.head_ok.ensures ∙ c.if-not-head_ok.false) c.read_word-count.ensures c.if-count-gt-RECORDS.false refl c.in_ok-place.ensures (length-take-le _ _ (omega arith)) v in
     (v, over_joined _ _ _ _ r.0 r.1 (omega arith), r.2)
 
 pub returns-else-frees_ok : goal.returns-else-frees_ok
 unfolding byte
 returns-else-frees_ok c =
-    sym (image_told _ _ _ _ _ c.if-s-ne-IMAGE_LEN.false (sym c.head_ok.ensures ∙ c.if-not-head_ok.false) c.read_word-count.ensures c.if-count-gt-RECORDS.false refl c.in-Some.ensures (length-take-le _ _ (omega arith)) c.frees_ok.ensures) ∙ c.if-frees_ok.false
+    sym (image_told _ _ _ _ _ c.if-s-ne-IMAGE_LEN.false (sym c.head_ok.ensures ∙ c.if-not-head_ok.false) c.read_word-count.ensures c.if-count-gt-RECORDS.false refl c.in_ok-place.ensures (length-take-le _ _ (omega arith)) c.frees_ok.ensures) ∙ c.if-frees_ok.false

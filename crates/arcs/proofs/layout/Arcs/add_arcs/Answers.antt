@@ -5,7 +5,7 @@ use Rattle.arcs.proofs.ArcWalk.{pairs_start, pairs_all, there_room, back_room, p
 use Rattle.arcs.proofs.layout.Arcs.add_arcs.Goals as goal
 
 pub loop-k-init : goal.loop-k-init
-loop-k-init c = rw (to_z-of_z c.ranges.v) (pairs_start _ _ _ _ _ _ _ _ _ c.requires.1 c.requires.2 _ c.requires.4 c.requires.5 c.requires.3)
+loop-k-init c = rw (to_z-of_z c.ranges.v) (pairs_start _ _ _ _ _ _ _ _ _ c.requires.1 c.requires.2 _ c.requires.4.0 c.requires.4.1 c.requires.3)
 
 pub add_arc-requires : goal.add_arc-requires
 add_arc-requires c =

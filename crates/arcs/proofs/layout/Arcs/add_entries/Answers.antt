@@ -17,8 +17,7 @@ add_entry-requires c =
       omega (arith, c.if-depth-gt0.true),
       is.deep,
       rw a (depth_held _ _ _ _ _ _ _ is),
-      omega arith,
-      λ k h. absurd (omega arith),
+      (omega arith, λ k h. absurd (omega arith)),
     )
 
 pub add_entry-requires-in-OfArc : goal.add_entry-requires-in-OfArc
@@ -33,8 +32,7 @@ add_entry-requires-in-OfArc c =
       is.low,
       is.deep,
       rw (a, opposite_is (pos (2 * c.args.penalty)) (omega (arith, c.requires.1.penalty))) (arc_held _ _ _ _ s _ _ _ is),
-      arc_link _ _ _ _ _ _ is,
-      arc_under _ _ _ _ _ _ is,
+      (arc_link _ _ _ _ _ _ is, arc_under _ _ _ _ _ _ is),
     )
 
 pub returns-then-depth-gt0 : goal.returns-then-depth-gt0

@@ -30,7 +30,6 @@ add_arcs-requires c =
       c.requires.4,
       rw (q, opposite_is c.args.q (omega (arith, c.requires.0.penalty))) (arcs_room _ _ _ _ _ _ _ _ _ c.requires.0 c.args.self.now.survey.few c.requires.5 _ first _ second),
       c.requires.6,
-      c.requires.7,
     )
 
 pub returns : goal.returns

@@ -1,6 +1,5 @@
 use Rattle.std.proofs.Common.{◌∙◌}
 use Rattle.channels.proofs.Channel.{meter_silent, meter_lowest}
-use Rattle.channels.proofs.Hearing.{quietest_is}
 use Rattle.channels.proofs.repairing.Repairing.channel_of.Goals as goal
 
 pub returns-in-Some : goal.returns-in-Some
@@ -11,5 +10,5 @@ returns-in-Some c =
 pub returns-in-None : goal.returns-in-None
 returns-in-None c =
     let r = c.requires in
-    quietest_is _ _ _ _ _ _ _ c.args.self.now.channels.low c.heard_at.ensures.1 c.least_sum.ensures
+    c.quietest_at.ensures
     ∙ meter_silent _ _ _ _ r.0 r.1 c.args.self.now.assigned.size _ c.in-None.ensures

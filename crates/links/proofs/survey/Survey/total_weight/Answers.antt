@@ -1,4 +1,4 @@
-use Rattle.std.proofs.Common.{arith}
+use Rattle.std.proofs.Common.{refl, arith}
 use Rattle.links.specs.Links.{total}
 use Rattle.lists.proofs.Walks.{summed_turn, summed_end}
 use Rattle.links.proofs.Walk.{link_at}
@@ -8,8 +8,8 @@ pub loop-link-preserved : goal.loop-link-preserved
 loop-link-preserved c =
     let ls = c.args.self.now.links.now in
     let l = c.loop-link in (
-      summed_turn (λ x. x.weight) ls _ l.link-index l.sum l.invariant.0 c.loop-link-test.true c.from-sum.result c.from-sum.ensures,
-      omega (arith, l.invariant.1, c.from-sum.ensures, (link_at c.args.self.now.meters ls c.args.self.now.each l.link-index c.loop-link-test.true).weight_high),
+      summed_turn (λ x. x.weight) ls _ l.link-index l.sum l.invariant.0 c.loop-link-test.true _ refl,
+      omega (arith, l.invariant.1, (link_at c.args.self.now.meters ls c.args.self.now.each l.link-index c.loop-link-test.true).weight_high),
     )
 
 pub returns-clause-value : goal.returns-clause-value

@@ -1,9 +1,9 @@
 use Rattle.std.proofs.Common.{refl, arith}
 use Rattle.lists.proofs.Stores.{zero_entries}
 use Rattle.channels.proofs.Halves.{halves}
-use Rattle.channels.proofs.Hearing.{lower_start, lower_meter, lower_room, lower_turn, lower_skip, upper_meter, upper_room, upper_turn, upper_stop, upper_end}
-use Rattle.channels.proofs.repairing.Repairing.heard_at.Goals.{then-link-m, else-link-m}
-use Rattle.channels.proofs.repairing.Repairing.heard_at.Goals as goal
+use Rattle.channels.proofs.Hearing.{lower_start, lower_meter, lower_room, lower_turn, lower_skip, upper_meter, upper_room, upper_turn, upper_stop, upper_end, quietest_is}
+use Rattle.channels.proofs.repairing.Repairing.quietest_at.Goals.{then-link-m, else-link-m, else-loop-link-2-test, then-loop-link-2-test+then-link-m-2}
+use Rattle.channels.proofs.repairing.Repairing.quietest_at.Goals as goal
 
 pub loop-link-init : goal.loop-link-init
 loop-link-init c =
@@ -50,16 +50,12 @@ loop-link-2-preserved c =
     let h = halves c.args.self.now.channels.survey _ _ _ e.whole e.below e.above in
     upper_turn _ _ _ _ _ _ _ _ h _ _ c.loop-link-2.invariant c.loop-link-2-test.true _ c.if-link-m-2.false c.add_borne-in-loop-link-2.ensures
 
-pub returns-after-loop-link-2 : goal.returns-after-loop-link-2
-returns-after-loop-link-2 c =
+pub returns : goal.returns
+returns c =
     let e = c.split_at_meter.ensures in
     let h = halves c.args.self.now.channels.survey _ _ _ e.whole e.below e.above in
     let l = c.loop-link-2 in
-    (l.invariant.size, upper_end _ _ _ _ _ _ _ _ h _ _ l.invariant (omega arith) l.auto.link-index-end)
-
-pub returns-then-link-m-2 : goal.returns-then-link-m-2
-returns-then-link-m-2 c =
-    let e = c.split_at_meter.ensures in
-    let h = halves c.args.self.now.channels.survey _ _ _ e.whole e.below e.above in
-    let l = c.loop-link-2 in
-    (l.invariant.size, upper_stop _ _ _ _ _ _ _ _ h _ _ l.invariant c.loop-link-2-test.true c.if-link-m-2.true)
+    elim c.loop-link-2-test.branch [
+      | else-loop-link-2-test w ↦ quietest_is _ _ _ _ _ _ _ c.args.self.now.channels.low (upper_end _ _ _ _ _ _ _ _ h _ _ l.invariant (omega arith) l.auto.link-index-end) c.least_sum.ensures
+      | then-loop-link-2-test+then-link-m-2 w ↦ quietest_is _ _ _ _ _ _ _ c.args.self.now.channels.low (upper_stop _ _ _ _ _ _ _ _ h _ _ l.invariant w.loop-link-2-test.true w.if-link-m-2.true) c.least_sum.ensures
+    ]

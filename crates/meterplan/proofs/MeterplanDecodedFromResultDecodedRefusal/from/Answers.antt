@@ -1,7 +1,7 @@
 use Rattle.std.proofs.Common.{◌∙◌}
 use Rattle.qubo.specs.declared.problem.Decoded.{Decoded}
 use Rattle.meterplan.proofs.Crossing.{given_is, withheld_is}
-use Rattle.meterplan.proofs.decoded_of.Goals as goal
+use Rattle.meterplan.proofs.MeterplanDecodedFromResultDecodedRefusal.from.Goals as goal
 
 pub returns-in-Ok : goal.returns-in-Ok
 returns-in-Ok c r w k e =

@@ -3,7 +3,7 @@ use Rattle.std.specs.Prelude.{ℤ, pos}
 use mir.Syntax.{w64}
 use mir.Facts.{to_z-of_z}
 use Rattle.meterplan.proofs.Crossing.{given_is, withheld_is}
-use Rattle.meterplan.proofs.number_of.Goals as goal
+use Rattle.meterplan.proofs.MeterplanNumberFromResultI64Refusal.from.Goals as goal
 
 pub returns-in-Ok : goal.returns-in-Ok
 returns-in-Ok c r z e =
