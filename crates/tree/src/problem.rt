@@ -63,11 +63,16 @@ impl<'a> Tree<'a> {
 }
 
 impl Problem for Tree<'_> {
+    ghost use Rattle.std.specs.Prelude.{length};
+    ghost use Rattle.tree.specs.Formula.{bit_count};
     ghost use Rattle.tree.specs.Instance.{instance};
 
     ghost instance = { λ t. instance t.penalty t.survey.meters t.d t.survey.links.now };
 
-    fn bits(&self) -> usize {
+    fn bits(&self) -> usize
+        ensures value { result ≡ bit_count self.now.survey.meters (length self.now.survey.links.now) self.now.d }
+        ensures most { result ≤ 15744 }
+    {
         self.neighbours().counts_end()
     }
 
