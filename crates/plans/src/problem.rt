@@ -25,7 +25,7 @@ impl<'a> Posed<'a> {
     ghost use Rattle.plans.specs.Inner.{instance_for, surveyed};
 
     /// The problem of a kind over a survey: A is that of the kind, and a margin.
-    pub fn new(kind: Kind, survey: Survey<'a>, margin: u64) -> Posed<'a>
+    pub(crate) fn new(kind: Kind, survey: Survey<'a>, margin: u64) -> Posed<'a>
         requires { (limits_hold survey.meters kind ≡ true) × (margin ≤ most_margin) }
         ensures { instance_for result ≡ instance_by (penalty_of (surveyed survey.entry) kind + margin) (surveyed survey.entry) kind }
     {
