@@ -18,7 +18,7 @@ ROWS = [
     ("5a parameters that travel together: links", r"\b(us|vs|ws|tails|heads): &", "src"),
     ("5b parameters that travel together: a site of the reference", r"weights: &\[u16; 2500\]", "src"),
     ("5c facts in contracts that a type could hold", r"\b(Arrays|Ends|WithChoices|WithDepths|WithNeighbourLimit|WithPlace|Ready)\b.*(now|×)", "src"),
-    ("6 arrays of a size, buffers with a length beside", r"&(mut )?\[(u8|u16|u64|i64); ?\d+\]", "src"),
+    ("6 arrays of a size, buffers with a length beside", r"&('\w+ )?(mut )?\[\w+; ?\w+\]", "src"),
     ("7 a switch on which step to run", r"match (kind|letter|problem)\b|if (kind|letter) [=!]=|\.kind [=!]=", "src"),
     ("8a answers to goals", r"^pub \S+ : goal\.", "proofs"),
     ("8b lemmas and definitions of proofs/", r"^\s*pub (?!mod)\S+ :(?! goal\.)", "proofs"),

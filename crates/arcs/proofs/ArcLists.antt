@@ -1,7 +1,6 @@
 -- The arcs of a list of links: two for each link, with the link's ends and weight, and each with a number of its own; what a loop over the links has left. Assumes nothing.
 use Prim.Native.Nat.{ℕ, zero, suc, ◌+◌, ◌*◌, ◌≤◌, ◌<◌}
 use mathlib.Core.Path.{◌≡◌, refl, sym, ap, ap₂, ◌∙◌}
-use mathlib.Core.Bool.{true}
 use mathlib.Core.List.Memᴰ
 use mathlib.Core.List.{List, [], ◌∷◌, Memᴰ}
 use mathlib.Core.Logic.{⊎_elim}
@@ -11,17 +10,13 @@ use lib.ListN.{length, drop, drop_of_length-le}
 use lib.Seq.{drop-cons}
 use lib.IntN.{ℤ, pos, ◌+ℤ◌, +ℤ_idl, +ℤ_idr}
 use Rattle.lists.specs.Sums.{sum_of}
-use Rattle.lists.specs.Tests.{all}
-use Rattle.lists.proofs.Tests.{all_head, all_tail}
-use Rattle.links.specs.Links.{link_ok, nothing, link_in}
+use Rattle.links.specs.Links.{nothing, link_in}
 use Rattle.links.specs.declared.Link.{Link}
-use Rattle.links.specs.Survey.{LinkOf, IsSurvey}
-use Rattle.links.proofs.Altered.{link_of}
+use Rattle.links.specs.Survey.{IsSurvey, EdgeOf, IsGraph}
+use Rattle.links.proofs.Altered.{member_link}
+use Rattle.links.proofs.Graph.{edge_in}
 use Rattle.qubo.proofs.Families.{sum_over}
 use Rattle.arcs.specs.Arcs.{Arc, arcs_from, arcs}
-use Rattle.arcs.specs.Inner.{IsPlace, weight_in}
-use Rattle.arcs.specs.declared.place.Place.{Place}
-use Rattle.arcs.specs.declared.place.Place.TheVariants.{OfDepth, OfArc, Behind}
 
 -- the arc of a link from u to v, and the one back, with their numbers
 abbrev pub there : ℕ → Link → Arc
@@ -41,14 +36,14 @@ unfolding arcs
 arcs_length ls = length_from 0 ls
 
 -- what the two of each link give adds up link by link
-sum_from_fact : (k : ℕ) (ls : List Link) (f : Arc → ℕ) (g : Link → ℕ) → ((j : ℕ) (l : Link) → Memᴰ l ls → f (there j l) + f (back (suc j) l) ≡ g l) → sum_of (arcs_from k ls) f ≡ sum_of ls g
+sum_by_link : (k : ℕ) (ls : List Link) (f : Arc → ℕ) (g : Link → ℕ) → ((j : ℕ) (l : Link) → Memᴰ l ls → f (there j l) + f (back (suc j) l) ≡ g l) → sum_of (arcs_from k ls) f ≡ sum_of ls g
 unfolding sum_of arcs_from
-sum_from_fact k [] f g h = refl
-sum_from_fact k (l ∷ ls) f g h = omega (arith, h k l (Memᴰ.head refl), sum_from_fact (suc (suc k)) ls f g (λ j m i. h j m (Memᴰ.tail i)))
+sum_by_link k [] f g h = refl
+sum_by_link k (l ∷ ls) f g h = omega (arith, h k l (Memᴰ.head refl), sum_by_link (suc (suc k)) ls f g (λ j m i. h j m (Memᴰ.tail i)))
 
 pub sum_arcs : (ls : List Link) (f : Arc → ℕ) (g : Link → ℕ) → ((j : ℕ) (l : Link) → Memᴰ l ls → f (there j l) + f (back (suc j) l) ≡ g l) → sum_of (arcs ls) f ≡ sum_of ls g
 unfolding arcs
-sum_arcs ls f g h = sum_from_fact 0 ls f g h
+sum_arcs ls f g h = sum_by_link 0 ls f g h
 
 -- numbers from k on
 arcs_low : (k : ℕ) (ls : List Link) (a : Arc) → Memᴰ a (arcs_from k ls) → k ≤ a.number
@@ -80,33 +75,31 @@ pub record ArcOf (N : ℕ) (a : Arc) : Type 0 where
   pub child_low : 1 ≤ a.child
   pub child_high : a.child ≤ N
   pub apart : a.parent ≡ a.child → ⊥
-  pub weight_high : a.weight ≤ 65535
 
-there_of : (N k : ℕ) (l : Link) → LinkOf N l → ArcOf N (there k l)
-there_of N k l o = record { parent_low = o.u_low; parent_high = omega (arith, o.ordered, o.v_high); child_low = omega (arith, o.u_low, o.ordered); child_high = o.v_high; apart = λ e. omega (arith, o.ordered); weight_high = o.weight_high }
+there_of : (N k : ℕ) (l : Link) → EdgeOf N l → ArcOf N (there k l)
+there_of N k l o = record { parent_low = o.u_low; parent_high = omega (arith, o.ordered, o.v_high); child_low = omega (arith, o.u_low, o.ordered); child_high = o.v_high; apart = λ e. omega (arith, o.ordered) }
 
-back_of : (N k : ℕ) (l : Link) → LinkOf N l → ArcOf N (back k l)
-back_of N k l o = record { parent_low = omega (arith, o.u_low, o.ordered); parent_high = o.v_high; child_low = o.u_low; child_high = omega (arith, o.ordered, o.v_high); apart = λ e. omega (arith, o.ordered); weight_high = o.weight_high }
+back_of : (N k : ℕ) (l : Link) → EdgeOf N l → ArcOf N (back k l)
+back_of N k l o = record { parent_low = omega (arith, o.u_low, o.ordered); parent_high = o.v_high; child_low = o.u_low; child_high = omega (arith, o.ordered, o.v_high); apart = λ e. omega (arith, o.ordered) }
 
-of_from : (N k : ℕ) (ls : List Link) → all (link_ok N) ls ≡ true → (a : Arc) → Memᴰ a (arcs_from k ls) → ArcOf N a
+-- what holds of the two arcs of every link holds of each arc
+each_from : (P : Arc → Type 0) (k : ℕ) (ls : List Link) → ((j : ℕ) (l : Link) → Memᴰ l ls → P (there j l) × P (back j l)) → (a : Arc) → Memᴰ a (arcs_from k ls) → P a
 unfolding arcs_from
-of_from N k [] o a m = absurd (Memᴰ.not-nil m)
-of_from N k (l ∷ ls) o a m =
-    let s = link_of N l (all_head (link_ok N) l ls o) in
-    ⊎_elim (λ e. rw e (there_of N k l s))
-    (λ n. ⊎_elim (λ e. rw e (back_of N (suc k) l s)) (λ p. of_from N (suc (suc k)) ls (all_tail (link_ok N) l ls o) a p) (Memᴰ.cases_cons n))
+each_from P k [] h a m = absurd (Memᴰ.not-nil m)
+each_from P k (l ∷ ls) h a m =
+    ⊎_elim (λ e. rw e (h k l (Memᴰ.head refl)).0)
+    (λ n. ⊎_elim (λ e. rw e (h (suc k) l (Memᴰ.head refl)).1) (λ p. each_from P (suc (suc k)) ls (λ j x i. h j x (Memᴰ.tail i)) a p) (Memᴰ.cases_cons n))
     (Memᴰ.cases_cons m)
 
--- each arc of a survey's links is one
-pub arc_of : (N : ℕ) (ls : List Link) → IsSurvey N ls → (a : Arc) → Memᴰ a (arcs ls) → ArcOf N a
+-- each arc of a graph's links is one
+pub arc_of : (N : ℕ) (ls : List Link) → IsGraph N ls → (a : Arc) → Memᴰ a (arcs ls) → ArcOf N a
 unfolding arcs
-arc_of N ls s = of_from N 0 ls s.each
+arc_of N ls s = each_from (ArcOf N) 0 ls (λ k l i. let o = edge_in N ls s.each l i in (there_of N k l o, back_of N k l o))
 
--- and the weight at the place of a bit is one of theirs, or 0
-pub weight_few : (N D : ℕ) (ls : List Link) (i : ℕ) (q : Place) → IsSurvey N ls → IsPlace N D ls i q → weight_in q ≤ 65535
-weight_few N D ls i (OfDepth v t) s p = omega arith
-weight_few N D ls i (OfArc k u v x t) s p = (arc_of N ls s _ p.among).weight_high
-weight_few N D ls i Behind s p = omega arith
+-- and the weight of each of a survey's is a link's
+pub arc_weight : (N : ℕ) (ls : List Link) → IsSurvey N ls → (a : Arc) → Memᴰ a (arcs ls) → a.weight ≤ 65535
+unfolding arcs
+arc_weight N ls s = each_from (λ a. a.weight ≤ 65535) 0 ls (λ k l i. let o = member_link N ls s.each l i in (o.weight_high, o.weight_high))
 
 -- ---- sums over the arcs in which at most one has a part
 
@@ -163,9 +156,9 @@ module _ (ls : List Link) where
       d = omega arith
 
   -- in the end none is left
-  pub arcs_end_fact : (k : ℕ) → length ls ≤ k → arcs_left ls k ≡ []
+  pub arcs_past : (k : ℕ) → length ls ≤ k → arcs_left ls k ≡ []
   unfolding arcs_left arcs_from
-  arcs_end_fact k h = ap (arcs_from (2 * k)) (drop_of_length-le ls h)
+  arcs_past k h = ap (arcs_from (2 * k)) (drop_of_length-le ls h)
 
   -- those left are among all
   left_among : (k : ℕ) → k ≤ length ls → (a : Arc) → Memᴰ a (arcs_left ls k) → Memᴰ a (arcs ls)

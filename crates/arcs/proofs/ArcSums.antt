@@ -7,7 +7,7 @@ use native.Mathlib.Omega.{arith}
 use Rattle.lists.specs.Sums.{sum_of}
 use Rattle.links.specs.declared.Link.{Link}
 use Rattle.arcs.specs.Arcs.{Arc, arcs}
-use Rattle.arcs.proofs.ArcLists.{arc_up, arc_back, arcs_left, arcs_start, arcs_turn, arcs_end_fact}
+use Rattle.arcs.proofs.ArcLists.{arc_up, arc_back, arcs_left, arcs_start, arcs_turn, arcs_past}
 
 pub record ArcsSummed (ls : List Link) (f : Arc → ℕ) (k sum : ℕ) : Type 0 where
   pub whole : sum + sum_of (arcs_left ls k) f ≡ sum_of (arcs ls) f
@@ -24,4 +24,4 @@ module _ (ls : List Link) (f : Arc → ℕ) where
 
     pub summed_end : length ls ≤ k → sum ≡ sum_of (arcs ls) f
     unfolding sum_of
-    summed_end h = omega (arith, s.whole, ap (λ (l : List Arc). sum_of l f) (arcs_end_fact ls k h))
+    summed_end h = omega (arith, s.whole, ap (λ (l : List Arc). sum_of l f) (arcs_past ls k h))

@@ -20,7 +20,7 @@ use Rattle.arcs.specs.Arcs.{Arc, arcs, arc_bit, arcs_end}
 use Rattle.arcs.specs.Inner.{Row, end_of, both_ends, pair_at, pairs_at, pairs_within, Walk}
 use Rattle.arcs.specs.declared.rows.End.{End}
 use Rattle.arcs.specs.declared.rows.End.TheVariants.{Parent, Child}
-use Rattle.arcs.proofs.ArcLists.{there, back, arc_up, arc_back, arcs_left, arcs_start, arcs_turn, arcs_end_fact}
+use Rattle.arcs.proofs.ArcLists.{there, back, arc_up, arc_back, arcs_left, arcs_start, arcs_turn, arcs_past}
 use Rattle.arcs.proofs.BitsApart.{arc_below}
 
 -- ---- what is left to add
@@ -46,7 +46,7 @@ module _ (F : Arc → Formula) (ls : List Link) where
   -- in the end none
   terms_none : terms_left (length ls) ≡ []
   unfolding terms_left
-  terms_none = let e : length ls ≤ length ls = omega arith in ap (λ (l : List Arc). over l F) (arcs_end_fact ls (length ls) e)
+  terms_none = let e : length ls ≤ length ls = omega arith in ap (λ (l : List Arc). over l F) (arcs_past ls (length ls) e)
 
 -- ---- one arc: it counts where its end is the meter
 

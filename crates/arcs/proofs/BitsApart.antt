@@ -49,7 +49,7 @@ module _ (N D : ℕ) (a b : Arc) (s t : ℕ) (h : 1 ≤ s) (g : s ≤ D) (k : 1 
       omega arith
 
   -- and the depth
-  pub arc_depth_fact : s ≡ t
-  arc_depth_fact =
+  pub same_depth : s ≡ t
+  same_depth =
       bit_choice D (suc a.number) s (b.number * D + pred t) h g off
       ∙ sym (bit_choice D (suc b.number) t (b.number * D + pred t) k l (let r : b.number * D + pred t ≡ b.number * D + pred t = omega arith in r))

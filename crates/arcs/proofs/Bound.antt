@@ -11,11 +11,12 @@ use native.Mathlib.Nat.{le_trans, mul-le-mul, mul-le-mul_left, mul-le-mul_right}
 use borrow.Author.Tests.{eqb-true}
 use Rattle.lists.specs.Sums.{sum_of, same}
 use Rattle.lists.proofs.Sums.{sum_of_times}
+use Rattle.lists.proofs.Members.{sum_of_eq}
 use Rattle.links.specs.Links.{is_at, degree}
 use Rattle.links.specs.declared.Link.{Link}
-use Rattle.links.specs.Survey.{LinkOf, IsSurvey}
+use Rattle.links.specs.Survey.{IsSurvey, EdgeOf, IsGraph}
 use Rattle.links.proofs.Degree.{degree_few}
-use Rattle.links.proofs.Walk.{sum_equal}
+use Rattle.links.proofs.Graph.{edge_in}
 use Rattle.qubo.specs.Formula.{Formula, product}
 use Rattle.qubo.specs.Norm.{entries_norm, term_norm, formula_norm}
 use Rattle.qubo.specs.Terms.{each, over, bit, single}
@@ -25,7 +26,7 @@ use Rattle.onehot.specs.Choices.{one_hots}
 use Rattle.onehot.proofs.Penalty.{one_hots_norm}
 use Rattle.arcs.specs.Arcs.{Arc, arcs, depth_bit, arc_bit}
 use Rattle.arcs.specs.Formula.{root_term, depth_terms, entering, entry_term, entry_terms, ends_missing, end_terms, weight_terms}
-use Rattle.arcs.proofs.ArcLists.{arcs_length, sum_arcs, ArcOf, arc_of}
+use Rattle.arcs.proofs.ArcLists.{arcs_length, sum_arcs, arc_weight}
 
 -- ---- depths
 
@@ -48,9 +49,9 @@ degree_sum m [] = refl
 degree_sum m (l ∷ ls) = omega (arith, degree_sum m ls)
 
 -- as many arcs lead into a meter as there are links at it
-pub arcs_into : (N : ℕ) (ls : List Link) (m : ℕ) → IsSurvey N ls → sum_of (arcs ls) (λ a. same a.child m) ≡ degree m ls
+pub arcs_into : (N : ℕ) (ls : List Link) (m : ℕ) → IsGraph N ls → sum_of (arcs ls) (λ a. same a.child m) ≡ degree m ls
 unfolding same is_at
-arcs_into N ls m s = sum_arcs ls (λ a. same a.child m) (λ l. same l.v m + same l.u m) (λ k l i. refl) ∙ sum_equal N ls s.each (λ l. same l.v m + same l.u m) (λ l. cond (is_at m l) 1 0) one ∙ degree_sum m ls
+arcs_into N ls m s = sum_arcs ls (λ a. same a.child m) (λ l. same l.v m + same l.u m) (λ k l i. refl) ∙ sum_of_eq ls (λ l. same l.v m + same l.u m) (λ l. cond (is_at m l) 1 0) (λ l i. one l (edge_in N ls s.each l i)) ∙ degree_sum m ls
   where
     go : (l : Link) → l.u < l.v → (s t : Bool) → (s ≡ true → l.u ≡ m) → (t ≡ true → l.v ≡ m) → cond t 1 0 + cond s 1 0 ≡ cond (s || t) 1 0
     go l o true true e f = let p = e refl in let q = f refl in let z : ⊥ = omega arith in absurd z
@@ -58,15 +59,15 @@ arcs_into N ls m s = sum_arcs ls (λ a. same a.child m) (λ l. same l.v m + same
     go l o false true e f = refl
     go l o false false e f = refl
 
-    one : (l : Link) → LinkOf N l → same l.v m + same l.u m ≡ cond (is_at m l) 1 0
+    one : (l : Link) → EdgeOf N l → same l.v m + same l.u m ≡ cond (is_at m l) 1 0
     one l o = go l o.ordered (eqb l.u m) (eqb l.v m) (eqb-true l.u m) (eqb-true l.v m)
 
 -- and twice as many have it as parent or child
-pub arcs_touching : (N : ℕ) (ls : List Link) (m : ℕ) → IsSurvey N ls → sum_of (arcs ls) (λ a. cond (eqb a.parent m || eqb a.child m) 1 0) ≡ 2 * degree m ls
+pub arcs_touching : (N : ℕ) (ls : List Link) (m : ℕ) → IsGraph N ls → sum_of (arcs ls) (λ a. cond (eqb a.parent m || eqb a.child m) 1 0) ≡ 2 * degree m ls
 unfolding is_at
 arcs_touching N ls m s =
     sum_arcs ls (λ a. cond (eqb a.parent m || eqb a.child m) 1 0) (λ l. cond (eqb l.u m || eqb l.v m) 1 0 + cond (eqb l.v m || eqb l.u m) 1 0) (λ k l i. refl)
-    ∙ sum_equal N ls s.each (λ l. cond (eqb l.u m || eqb l.v m) 1 0 + cond (eqb l.v m || eqb l.u m) 1 0) (λ l. 2 * cond (is_at m l) 1 0) (λ l o. go (eqb l.u m) (eqb l.v m))
+    ∙ sum_of_eq ls (λ l. cond (eqb l.u m || eqb l.v m) 1 0 + cond (eqb l.v m || eqb l.u m) 1 0) (λ l. 2 * cond (is_at m l) 1 0) (λ l i. go (eqb l.u m) (eqb l.v m))
     ∙ sum_of_times ls 2 (λ l. cond (is_at m l) 1 0)
     ∙ ap (λ t. 2 * t) (degree_sum m ls)
   where
@@ -90,37 +91,37 @@ tested_norm (a ∷ ks) test es n h = omega (arith, entries_norm_append (cond (te
     one false = omega arith
 
 -- the form of meter v and depth i: its bit, and at most 47 arcs
-entry_norm : (A N D : ℕ) (ls : List Link) → IsSurvey N ls → (v i : ℕ) → term_norm (entry_term A N D (arcs ls) v i) ≤ A * 2304
+entry_norm : (A N D : ℕ) (ls : List Link) → IsGraph N ls → (v i : ℕ) → term_norm (entry_term A N D (arcs ls) v i) ≤ A * 2304
 unfolding same
 entry_norm A N D ls s v i =
     mul-le-mul_left A (square_le (0 + (1 + entries_norm (over (arcs ls) (entering N D v i)))) 48
     (omega (arith, tested_norm (arcs ls) (λ a. eqb a.child v) (λ a. (arc_bit N D a i, negsuc 0) ∷ []) 1 (λ a. refl), arcs_into N ls v s, degree_few N ls v s)))
 
-pub entries_norm_fact : (A N D : ℕ) (ls : List Link) → IsSurvey N ls → D ≤ 24 → formula_norm (entry_terms A N D (arcs ls)) ≤ A * 2654208
+pub entry_terms_small : (A N D : ℕ) (ls : List Link) → IsGraph N ls → D ≤ 24 → formula_norm (entry_terms A N D (arcs ls)) ≤ A * 2654208
 unfolding entry_terms
-entries_norm_fact A N D ls s d =
+entry_terms_small A N D ls s d =
     le_trans (norm_each_of (D * (A * 2304)) N (λ v. each D (entry_term A N D (arcs ls) v)) (λ v p q. norm_each (A * 2304) D (entry_term A N D (arcs ls) v) (λ i a b. entry_norm A N D ls s v i)))
-    (omega (arith, mul-le-mul {n₂ = 48} {m₂ = 24 * (A * 2304)} s.meters_high (mul-le-mul_right (A * 2304) d)))
+    (omega (arith, mul-le-mul {n₂ = 48} {m₂ = 24 * (A * 2304)} s.few_meters (mul-le-mul_right (A * 2304) d)))
 
 -- the norm of the terms of arcs, where that of each arc is at most b
-arcs_norm : (G : Arc → Formula) (b N : ℕ) (ls : List Link) → IsSurvey N ls → ((a : Arc) → ArcOf N a → formula_norm (G a) ≤ b) → formula_norm (over (arcs ls) G) ≤ 512 * b
-arcs_norm G b N ls s h =
-    le_trans (norm_members (arcs ls) (λ a m. h a (arc_of N ls s a m))) (let few : length (arcs ls) ≤ 512 = omega (arith, arcs_length ls, s.few) in mul-le-mul_right b few)
+arcs_norm : (G : Arc → Formula) (b : ℕ) (ls : List Link) → length ls ≤ 256 → ((a : Arc) → Memᴰ a (arcs ls) → formula_norm (G a) ≤ b) → formula_norm (over (arcs ls) G) ≤ 512 * b
+arcs_norm G b ls few h =
+    le_trans (norm_members (arcs ls) h) (let m : length (arcs ls) ≤ 512 = omega (arith, arcs_length ls) in mul-le-mul_right b m)
   where
     norm_members : (ks : List Arc) → ((a : Arc) → Memᴰ a ks → formula_norm (G a) ≤ b) → formula_norm (over ks G) ≤ length ks * b
     norm_members [] h = omega arith
     norm_members (a ∷ ks) h = omega (arith, norm_append (G a) (over ks G), h a (Memᴰ.head refl), norm_members ks (λ c m. h c (Memᴰ.tail m)))
 
-pub ends_norm : (A N D : ℕ) (ls : List Link) → IsSurvey N ls → D ≤ 24 → formula_norm (end_terms A N D (arcs ls)) ≤ A * 49152
+pub ends_norm : (A N D : ℕ) (ls : List Link) → IsGraph N ls → D ≤ 24 → formula_norm (end_terms A N D (arcs ls)) ≤ A * 49152
 unfolding end_terms
 ends_norm A N D ls s d =
     le_trans
-    (arcs_norm (λ a. each D (λ i. product (pos A) (bit (arc_bit N D a i)) (ends_missing D a i))) (D * (A * 4)) N ls s (λ a o. norm_each (A * 4) D (λ i. product (pos A) (bit (arc_bit N D a i)) (ends_missing D a i)) (λ i p q. omega arith)))
+    (arcs_norm (λ a. each D (λ i. product (pos A) (bit (arc_bit N D a i)) (ends_missing D a i))) (D * (A * 4)) ls s.few (λ a m. norm_each (A * 4) D (λ i. product (pos A) (bit (arc_bit N D a i)) (ends_missing D a i)) (λ i p q. omega arith)))
     (omega (arith, mul-le-mul_left 512 (mul-le-mul_right (A * 4) d)))
 
 pub weights_norm : (N D : ℕ) (ls : List Link) → IsSurvey N ls → D ≤ 24 → formula_norm (weight_terms N D (arcs ls)) ≤ 805294080
 unfolding weight_terms
 weights_norm N D ls s d =
     le_trans
-    (arcs_norm (λ a. each D (λ i. single (pos a.weight) (arc_bit N D a i))) (D * 65535) N ls s (λ a o. norm_each 65535 D (λ i. single (pos a.weight) (arc_bit N D a i)) (λ i p q. omega (arith, o.weight_high))))
+    (arcs_norm (λ a. each D (λ i. single (pos a.weight) (arc_bit N D a i))) (D * 65535) ls s.few (λ a m. norm_each 65535 D (λ i. single (pos a.weight) (arc_bit N D a i)) (λ i p q. omega (arith, arc_weight N ls s a m))))
     (omega arith)

@@ -7,7 +7,7 @@ use native.Mathlib.Decide.{ℕ_discrete, dec_le}
 use borrow.Author.Tests.{eq-eqb, ne_eqb}
 use lib.ListN.{length}
 use lib.IntN.{ℤ, pos, negsuc, ◌-ℤ◌, ◌*ℤ◌}
-use Rattle.links.specs.Survey.{IsSurvey}
+use Rattle.links.specs.Survey.{IsGraph}
 use Rattle.links.specs.declared.Link.{Link}
 use Rattle.qubo.specs.Formula.{Formula, product}
 use Rattle.qubo.specs.Terms.{each_of, each, over, bit, single, pair}
@@ -24,7 +24,7 @@ use Rattle.arcs.specs.declared.rows.End.TheVariants.{Parent, Child}
 use Rattle.arcs.proofs.ArcLists.{arc_high, ArcOf, arc_of}
 use Rattle.arcs.proofs.ArcWalk.{within_yes, within_zero, within_deep, within_none}
 use Rattle.arcs.proofs.Alike.{Alike, alike_append, alike_over, alike_each, over_nothing, over_split, each_split, arc_only}
-use Rattle.arcs.proofs.BitsApart.{depth_below, depth_meter, depth_depth, arc_above, arc_below, arc_number, arc_depth_fact}
+use Rattle.arcs.proofs.BitsApart.{depth_below, depth_meter, depth_depth, arc_above, arc_below, arc_number, same_depth}
 
 -- ---- numbers of arc bits
 
@@ -37,7 +37,7 @@ singles_own : (w : Arc → ℤ) (N D : ℕ) (ls : List Link) (i : ℕ) (a : Arc)
 singles_own w N D ls i a t is r =
     arc_only ls (λ b. each D (λ s. single (w b) (arc_bit N D b s))) a i is.among
     (λ b m ne. absent_each_of D (λ s. single (w b) (arc_bit N D b s) ∷ []) i (λ s l h. single_absent (w b) (arc_bit N D b s) i (λ e. ne (arc_number N D b a s t l h is.low is.deep (e ∙ sym is.here))))) r
-    ∙ add_only D (λ s. single (w a) (arc_bit N D a s) ∷ []) t i r is.low is.deep (λ s l h ne. single_absent (w a) (arc_bit N D a s) i (λ e. ne (arc_depth_fact N D a a s t l h is.low is.deep (e ∙ sym is.here))))
+    ∙ add_only D (λ s. single (w a) (arc_bit N D a s) ∷ []) t i r is.low is.deep (λ s l h ne. single_absent (w a) (arc_bit N D a s) i (λ e. ne (same_depth N D a a s t l h is.low is.deep (e ∙ sym is.here))))
     ∙ ap (λ (p : ℕ). add_terms (single (w a) p ∷ []) i r) is.here
 
 -- in any other: none
@@ -163,12 +163,12 @@ module _ (N D : ℕ) (ls : List Link) (i : ℕ) (r : List ℤ) where
 
 -- ---- add_ends, by the place of bit i
 
-module _ (A N D : ℕ) (ls : List Link) (survey : IsSurvey N ls) where
+module _ (A N D : ℕ) (ls : List Link) (graph : IsGraph N ls) where
   abbrev ks : List Arc
   ks = arcs ls
 
   ends_of : (a : Arc) → Memᴰ a (arcs ls) → ArcOf N a
-  ends_of = arc_of N ls survey
+  ends_of = arc_of N ls graph
 
   -- what the singles and the two families of pairs come to
   ends_are : (i : ℕ) (r s : List ℤ) → add_terms (touches (pos 0 -ℤ pos A) N D (λ a. a.child) (λ t. t) ks) i (add_terms (touches (pos 0 -ℤ pos A) N D (λ a. a.parent) pred ks) i (add_terms (singles (λ a. pos (2 * A)) N D ks) i r)) ≡ s → s ≡ add_terms (end_terms A N D ks) i r

@@ -11,9 +11,9 @@ use Rattle.lists.specs.Sums.{sum_to, same, gap}
 use Rattle.lists.proofs.Sums.{same_yes, same_no, same_le, sum_to_eq, sum_of_le, times_bit}
 use Rattle.links.specs.Links.{link_in}
 use Rattle.links.specs.declared.Link.{Link}
-use Rattle.links.specs.Survey.{IsSurvey}
+use Rattle.links.specs.Survey.{IsGraph}
 use Rattle.links.proofs.Degree.{degree_few}
-use Rattle.links.proofs.Walk.{link_at}
+use Rattle.links.proofs.Graph.{edge_at}
 use Rattle.qubo.specs.Formula.{Bits}
 use Rattle.onehot.proofs.Parts.{part_within}
 use Rattle.arcs.specs.Arcs.{Arc, arcs, depth_bit, arc_bit, arcs_end, depth_at, arc_at}
@@ -176,7 +176,7 @@ module _ (N D : ℕ) (x : List ℕ) (ls : List Link) where
   entered_end k s g h v i a p l = summed_end ls (enters N D x v i) k (get_or s (depth_bit D v i) 0) (g.so_far v i a p l) h
 
 -- at most 47 arcs lead into a meter
-pub entries_few : (N D : ℕ) (ls : List Link) (x : List ℕ) → IsSurvey N ls → Bits x → (v i : ℕ) → entries_of (arcs ls) (arc_at N D x) v i ≤ 47
+pub entries_few : (N D : ℕ) (ls : List Link) (x : List ℕ) → IsGraph N ls → Bits x → (v i : ℕ) → entries_of (arcs ls) (arc_at N D x) v i ≤ 47
 unfolding entries_of arc_at
 entries_few N D ls x s b v i =
     omega (
@@ -187,15 +187,15 @@ entries_few N D ls x s b v i =
     )
 
 -- so at most 47 of them are counted at any time
-entered_few : (N D : ℕ) (x : List ℕ) (ls : List Link) → IsSurvey N ls → Bits x → (k : ℕ) (s : List ℕ) → EnteredTo N D x ls k s → (v i : ℕ) → 1 ≤ v → 1 ≤ i → i ≤ D → get_or s (depth_bit D v i) 0 ≤ 47
+entered_few : (N D : ℕ) (x : List ℕ) (ls : List Link) → IsGraph N ls → Bits x → (k : ℕ) (s : List ℕ) → EnteredTo N D x ls k s → (v i : ℕ) → 1 ≤ v → 1 ≤ i → i ≤ D → get_or s (depth_bit D v i) 0 ≤ 47
 unfolding enters entries_of
 entered_few N D x ls y b k s g v i a p l = omega (arith, (g.so_far v i a p l).whole, entries_few N D ls x y b v i)
 
 -- what count_link asks
-pub entered_room : (N D : ℕ) (x : List ℕ) (ls : List Link) → IsSurvey N ls → Bits x → arcs_end N D (length ls) ≤ length x → (k : ℕ) → k < length ls → (s : List ℕ) → EnteredTo N D x ls k s → LinkFits N D x k (link_in ls k) s
+pub entered_room : (N D : ℕ) (x : List ℕ) (ls : List Link) → IsGraph N ls → Bits x → arcs_end N D (length ls) ≤ length x → (k : ℕ) → k < length ls → (s : List ℕ) → EnteredTo N D x ls k s → LinkFits N D x k (link_in ls k) s
 entered_room N D x ls y b fits k h s g = record {
   few = omega (arith, y.few);
-  link = link_at N ls y.each k h;
+  link = edge_at N ls y.each k h;
   bits = b;
   inside = links_within N D (length ls) k (length x) h fits;
   size = g.size;
@@ -206,7 +206,7 @@ entered_room N D x ls y b fits k h s g = record {
 
 -- counts at which a place holds the arcs into it
 module _ (N D : ℕ) (ls : List Link) (x counts : List ℕ) (are : (v i : ℕ) → 1 ≤ v → 1 ≤ i → i ≤ D → get_or counts (depth_bit D v i) 0 ≡ entries_of (arcs ls) (arc_at N D x) v i) where
-  pub counts_small : IsSurvey N ls → Bits x → (v i : ℕ) → 1 ≤ v → 1 ≤ i → i ≤ D → get_or counts (depth_bit D v i) 0 ≤ 48
+  pub counts_small : IsGraph N ls → Bits x → (v i : ℕ) → 1 ≤ v → 1 ≤ i → i ≤ D → get_or counts (depth_bit D v i) 0 ≤ 48
   counts_small s b v i a p l = omega (arith, are v i a p l, entries_few N D ls x s b v i)
 
   pub entry_gaps_is : (r : ℕ) → r ≡ sum_to N (λ v. sum_to D (λ i. gap (depth_at D x v i) (get_or counts (depth_bit D v i) 0) * gap (depth_at D x v i) (get_or counts (depth_bit D v i) 0)))

@@ -11,7 +11,7 @@ use lib.Dec.{eqb}
 use lib.ListN.{length}
 use lib.IntN.{ℤ, pos, negsuc, ◌+ℤ◌, ◌-ℤ◌, ◌*ℤ◌, +ℤ_idr}
 use Rattle.links.specs.declared.Link.{Link}
-use Rattle.links.specs.Survey.{IsSurvey}
+use Rattle.links.specs.Survey.{IsGraph}
 use Rattle.qubo.specs.Table.{only, coef}
 use Rattle.qubo.specs.Terms.{each_of, each, over, sum, bit, single, pair, times}
 use Rattle.qubo.specs.Rows.{add_terms}
@@ -25,7 +25,7 @@ use Rattle.arcs.specs.Formula.{entering, entry_term, entry_terms}
 use Rattle.arcs.specs.Inner.{IsDepth, IsArc, pair_at, pairs_at, Held}
 use Rattle.arcs.specs.declared.rows.End.TheVariants.{Child}
 use Rattle.arcs.proofs.ArcLists.{sum_over_none, sum_over_arc, arc_high, ArcOf, arc_of}
-use Rattle.arcs.proofs.BitsApart.{depth_below, depth_meter, depth_depth, arc_above, arc_below, arc_number, arc_depth_fact}
+use Rattle.arcs.proofs.BitsApart.{depth_below, depth_meter, depth_depth, arc_above, arc_below, arc_number, same_depth}
 
 -- ---- coefficients
 
@@ -92,7 +92,7 @@ module _ (N D : ℕ) (ls : List Link) (i : ℕ) (a : Arc) (t : ℕ) (is : IsArc 
   others u s l h ne = elim (ℕ_discrete s t) [
     | yes e ↦ sum_over_arc (λ b. coef (entering N D u s b) i) a 0 ls is.among (λ b m no. entering_other N D u s b i (λ d. no (arc_number N D b a s t l h is.low is.deep (d ∙ sym is.here))))
         ∙ entering_away N D u s a i (λ d. ne (sym d) e)
-    | no e ↦ sum_over_none (arcs ls) (λ b. coef (entering N D u s b) i) (λ b m. entering_other N D u s b i (λ d. e (arc_depth_fact N D b a s t l h is.low is.deep (d ∙ sym is.here))))
+    | no e ↦ sum_over_none (arcs ls) (λ b. coef (entering N D u s b) i) (λ b m. entering_other N D u s b i (λ d. e (same_depth N D b a s t l h is.low is.deep (d ∙ sym is.here))))
   ]
 
   arc_other : (u s : ℕ) → 1 ≤ u → u ≤ N → 1 ≤ s → s ≤ D → (u ≡ a.child → s ≡ t → ⊥) → coef (entry_form N D (arcs ls) u s) i ≡ pos 0
@@ -190,9 +190,9 @@ module _ (A N D : ℕ) (ls : List Link) where
     root_entry l r = sym (entry_none A N D (arcs ls) i (λ u d p q m n. depth_other N D i v t is (arcs ls) u d p n (λ e f. omega arith)) r)
 
   -- that of an arc: the term of its child
-  module _ (survey : IsSurvey N ls) (i : ℕ) (a : Arc) (t : ℕ) (is : IsArc N D ls i a t) where
+  module _ (graph : IsGraph N ls) (i : ℕ) (a : Arc) (t : ℕ) (is : IsArc N D ls i a t) where
     ends : ArcOf N a
-    ends = arc_of N ls survey a is.among
+    ends = arc_of N ls graph a is.among
 
     pub arc_held : Held A N D (arcs ls) a.child t i (pos 0 -ℤ pos (2 * A))
     arc_held = record { factor = negsuc 0; has = arc_own N D ls i a t is ends.child_low ends.child_high; unit = refl; twice = solve (con (pos 0) ⊖ con (pos 2) ⊗ var 0) (con (pos 2) ⊗ (var 0 ⊗ con (negsuc 0))) tt (pos A ∷ []) }

@@ -16,3 +16,5 @@ pub mod LinkBits
 pub mod ArcSums
 pub mod Summing
 pub mod Entered
+pub mod Graph
+pub mod Weightless

@@ -1,7 +1,6 @@
 -- Laws that the proofs of src/sums.rt cite: sums over depths, meters and arcs as the loops add them up. Assumes nothing.
 use Prim.Native.Nat.{ℕ, zero, suc, pred, ◌+◌, ◌-◌, ◌*◌, ◌≤◌, ◌<◌}
 use mathlib.Core.Path.{◌≡◌, refl, sym, ap, ap₂, ◌∙◌}
-use mathlib.Core.Bool.{true}
 use mathlib.Core.List.{List}
 use lib.ListN.{length, get_or, take}
 use lib.Seq.{get_or-take, length-take-le}
@@ -10,10 +9,8 @@ use native.Mathlib.Numerals.{add-one}
 use native.Mathlib.Nat.{mul-le-mul, mul-add, zero-mul}
 use Rattle.lists.specs.Sums.{sum_to, sum_of, gap, nth}
 use Rattle.lists.proofs.Sums.{gap_small, sum_to_zero, sum_to_next, sum_to_eq, sum_to_none, nth_suc}
-use Rattle.lists.specs.Tests.{all}
-use Rattle.links.specs.Links.{link_ok, link_in}
+use Rattle.links.specs.Links.{link_in}
 use Rattle.links.specs.declared.Link.{Link}
-use Rattle.links.proofs.Walk.{link_at}
 use Rattle.qubo.specs.Formula.{Bits}
 use Rattle.onehot.specs.Choices.{bit_at, set_at, miss_squared, misses}
 use Rattle.arcs.specs.Arcs.{Arc, arcs, depth_bit, depth_at, arc_at}
@@ -94,26 +91,30 @@ bit_gap (suc zero) zero h = refl
 bit_gap (suc zero) (suc k) h = let g : gap 1 (suc k) ≡ k = omega arith in omega (arith, ap (λ (n : ℕ). n * n) g)
 bit_gap (suc (suc b)) c h = absurd (omega arith)
 
--- as the loop reckons it, with room for each step
-pub bit_gap_steps : (b c : ℕ) → b ≤ 1 → c ≤ 48 → (c * c ≤ 2304) × (2 * b * c ≤ 96) × (2 * b * c ≤ b + c * c) × (b + c * c - 2 * b * c ≡ gap b c * gap b c) × (gap b c * gap b c ≤ 2304)
-bit_gap_steps b c h k =
-    let e = bit_gap b c h in
-    (mul-le-mul {n₁ = c} {m₁ = c} {n₂ = 48} {m₂ = 48} k k, mul-le-mul {n₁ = 2 * b} {m₁ = c} {n₂ = 2} {m₂ = 48} (omega arith) k, omega (arith, e), omega (arith, e), gap_small b c 48 (omega arith) k)
+-- as the loop reckons it
+pub bit_gap_steps : (b c : ℕ) → b ≤ 1 → c ≤ 48 → (2 * b * c ≤ b + c * c) × (b + c * c - 2 * b * c ≡ gap b c * gap b c) × (gap b c * gap b c ≤ 2304)
+bit_gap_steps b c h k = let e = bit_gap b c h in (omega (arith, e), omega (arith, e), gap_small b c 48 (omega arith) k)
 
 -- the loop goes over both behind depth 0: at its step k it has what they are at depth k + 1
+pub record GapTurn (part counts : List ℕ) (k b c : ℕ) : Type 0 where
+  pub inside : k + 1 < length part
+  pub enough : 2 * b * c ≤ b + c * c
+  pub small : b + c * c - 2 * b * c ≤ 2304
+  pub next : gaps_before part counts (k + 1 + 1) ≡ gaps_before part counts (k + 1) + (b + c * c - 2 * b * c)
+
 module _ (part counts : List ℕ) (own : 1 ≤ length part) (size : length counts ≡ length part) where
   pub tails_length : (length (slice part 1 (length part)) + 1 ≡ length part) × (length (slice counts 1 (length counts)) + 1 ≡ length part)
   tails_length =
       (omega (arith, slice_length part 1 (length part) (length part - 1) (omega arith) (omega arith)), omega (arith, slice_length counts 1 (length counts) (length counts - 1) (omega arith) (omega arith)))
 
-  pub tails_turn : Bits part → ((t : ℕ) → 1 ≤ t → t < length part → get_or counts t 0 ≤ 48) → (k b c : ℕ) → k + 1 < length part → b ≡ get_or (slice part 1 (length part)) k 0 → c ≡ get_or (slice counts 1 (length counts)) k 0
-      → (c * c ≤ 2304) × (2 * b * c ≤ 96) × (2 * b * c ≤ b + c * c) × (b + c * c - 2 * b * c ≤ 2304) × (gaps_before part counts (k + 1 + 1) ≡ gaps_before part counts (k + 1) + (b + c * c - 2 * b * c))
-  tails_turn bits small k b c h e f =
+  pub tails_turn : Bits part → ((t : ℕ) → 1 ≤ t → t < length part → get_or counts t 0 ≤ 48) → (k b c : ℕ) → k < length (slice part 1 (length part)) → b ≡ get_or (slice part 1 (length part)) k 0 → c ≡ get_or (slice counts 1 (length counts)) k 0 → GapTurn part counts k b c
+  tails_turn bits few k b c h e f =
+      let in_part : k + 1 < length part = omega (arith, tails_length.0) in
       let next : 1 + k ≡ k + 1 = omega arith in
       let b_is : b ≡ get_or part (k + 1) 0 = e ∙ slice_at part 1 (length part) (length part - 1) (omega arith) (omega arith) k (omega arith) ∙ ap (λ (t : ℕ). get_or part t 0) next in
       let c_is : c ≡ get_or counts (k + 1) 0 = f ∙ slice_at counts 1 (length counts) (length counts - 1) (omega arith) (omega arith) k (omega arith) ∙ ap (λ (t : ℕ). get_or counts t 0) next in
-      let steps = bit_gap_steps (get_or part (k + 1) 0) (get_or counts (k + 1) 0) (bits (k + 1)) (small (k + 1) (omega arith) h) in
-      rw (b_is, c_is) (steps.0, steps.1, steps.2, omega (arith, steps.3, steps.4), gaps_next part counts (k + 1) (omega arith) ∙ ap (λ (t : ℕ). gaps_before part counts (k + 1) + t) (sym steps.3))
+      let steps = bit_gap_steps (get_or part (k + 1) 0) (get_or counts (k + 1) 0) (bits (k + 1)) (few (k + 1) (omega arith) in_part) in
+      rw (b_is, c_is) record { inside = in_part; enough = steps.0; small = omega (arith, steps.1, steps.2); next = gaps_next part counts (k + 1) (omega arith) ∙ ap (λ (t : ℕ). gaps_before part counts (k + 1) + t) (sym steps.1) }
 
 -- ---- part_misses: the depths up to i of an arc
 
@@ -284,8 +285,8 @@ module _ (N D : ℕ) (x : List ℕ) (ls : List Link) (k : ℕ) where
     cost_link = ap (λ (m : ℕ). (link_in ls k).weight * m) (set ∙ set_halves N D x ls k) ∙ mul-add ((link_in ls k).weight) (sum_to D (arc_at N D x (arc_up ls k))) (sum_to D (arc_at N D x (arc_back ls k)))
 
 -- a weight is at most 65,535, and a link has at most 48 bits
-pub cost_small : (N : ℕ) (ls : List Link) → all (link_ok N) ls ≡ true → (k : ℕ) → k < length ls → (n : ℕ) → n ≤ 48 → (link_in ls k).weight * n ≤ 3145680
-cost_small N ls o k h n b = mul-le-mul {m₁ = n} {n₂ = 65535} {m₂ = 48} (link_at N ls o k h).weight_high b
+pub cost_small : (w n : ℕ) → w ≤ 65535 → n ≤ 48 → w * n ≤ 3145680
+cost_small w n h b = mul-le-mul {n₂ = 65535} {m₂ = 48} h b
 
 -- ---- arc_cost: the first k links, whatever the bits are of which n are the counts
 

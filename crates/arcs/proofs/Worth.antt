@@ -17,7 +17,7 @@ use Rattle.qubo.proofs.Ints.{negℤ_*ℤ, one_*ℤ}
 use Rattle.qubo.proofs.Families.{sum_over, sum_each_eq, sum_each_pos, sum_over_each_of, sum_over_over, sum_over_pos}
 use Rattle.qubo.proofs.Values.{value_sum, entries_append, each_value, bits_value, bit_value, single_value, one_hot_value, gap_squared}
 use Rattle.onehot.specs.Choices.{bit_at, one_hots, miss_squared}
-use Rattle.onehot.proofs.Penalty.{miss_squared_fact, one_hots_value}
+use Rattle.onehot.proofs.Penalty.{miss_squared_whole, one_hots_value}
 use Rattle.arcs.specs.Arcs.{Arc, depth_bit, arc_bit, depth_at, arc_at}
 use Rattle.arcs.specs.Formula.{root_term, depth_terms, entering, entry_term, entry_terms, ends_missing, end_terms, weight_terms}
 use Rattle.arcs.specs.Sums.{root_miss, depth_misses, entries_of, entry_gaps, end_misses, arc_cost}
@@ -74,7 +74,7 @@ pub one_hot_pos : (A n : ℕ) (b : ℕ → ℕ) (x : List ℕ) → term_value (o
 one_hot_pos A n b x =
     one_hot_value (pos A) n b x
     ∙ ap (λ z. pos A *ℤ ((pos 1 -ℤ z) *ℤ (pos 1 -ℤ z))) (sum_each_pos n (λ i. get_or x (b i) 0))
-    ∙ ap (λ z. pos A *ℤ z) (sym (miss_squared_fact (sum_to n (λ i. get_or x (b i) 0))))
+    ∙ ap (λ z. pos A *ℤ z) (sym (miss_squared_whole (sum_to n (λ i. get_or x (b i) 0))))
 
 -- ---- families of terms that are worth A times a number
 
@@ -115,9 +115,9 @@ entry_value A N D ks x v i =
     (ap₂ ◌+ℤ◌ (one_*ℤ (pos (depth_at D x v i)))
     (tested_value ks (λ a. eqb a.child v) (λ a. (arc_bit N D a i, negsuc 0) ∷ []) (λ a. arc_at N D x a i) x (λ a. less_value (arc_bit N D a i) x)))
 
-pub entries_value_fact : (A N D : ℕ) (ks : List Arc) (x : List ℕ) → value (entry_terms A N D ks) x ≡ pos (A * entry_gaps N D ks (depth_at D x) (arc_at N D x))
+pub entry_gaps_value : (A N D : ℕ) (ks : List Arc) (x : List ℕ) → value (entry_terms A N D ks) x ≡ pos (A * entry_gaps N D ks (depth_at D x) (arc_at N D x))
 unfolding entry_terms entry_gaps
-entries_value_fact A N D ks x =
+entry_gaps_value A N D ks x =
     each_of_times A N (λ v. each D (entry_term A N D ks v)) (λ v. sum_to D (λ i. gap (depth_at D x v i) (entries_of ks (arc_at N D x) v i) * gap (depth_at D x v i) (entries_of ks (arc_at N D x) v i))) x
     (λ v. each_times A D (entry_term A N D ks v) (λ i. gap (depth_at D x v i) (entries_of ks (arc_at N D x) v i) * gap (depth_at D x v i) (entries_of ks (arc_at N D x) v i)) x (entry_value A N D ks x v))
 

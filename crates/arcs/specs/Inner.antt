@@ -2,7 +2,7 @@
 use Rattle.std.specs.Prelude.{ℕ, ◌+◌, ◌-◌, ◌^◌, ◌≤◌, pred, ◌*◌, ◌<◌, ◌≡◌, cond, ◌&&◌, length, get_or, ℤ, pos, nat_abs, ◌*ℤ◌, eqb, leb}
 use mathlib.Core.List.{List, Memᴰ, [], ◌∷◌}
 use Rattle.lists.specs.Sums.{sum_to, same}
-use Rattle.links.specs.Survey.{LinkOf}
+use Rattle.links.specs.Survey.{EdgeOf}
 use Rattle.links.specs.declared.Link.{Link}
 use Rattle.qubo.specs.Formula.{Bits, Formula}
 use Rattle.qubo.specs.Table.{coef}
@@ -110,7 +110,7 @@ pub record Used (N D M : ℕ) (x used : List ℕ) : Type 0 where
 -- there is room to count the arcs of link k, which is l, in the places of their children
 pub record LinkFits (N D : ℕ) (x : List ℕ) (k : ℕ) (l : Link) (counts : List ℕ) : Type 0 where
   pub few : k < 256
-  pub link : LinkOf N l
+  pub link : EdgeOf N l
   pub bits : Bits x
   pub inside : arcs_end N D (k + 1) ≤ length x
   pub size : length counts ≡ 1200

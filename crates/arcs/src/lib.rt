@@ -3,8 +3,10 @@
 
 mod layout;
 mod place;
-pub mod rows;
+mod rows;
 mod sums;
 
-pub use layout::Arcs;
+pub use layout::{Arcs, Layout};
 pub use place::Place;
+pub use rows::add_weights;
+pub use sums::arc_cost;

@@ -7,7 +7,7 @@ pub enum Place {
         meter: usize,
         depth: usize,
     },
-    // Not the struct of an arc: the definitions' Arc has no depth, and places are matched by case.
+    // Its fields stand here by themselves: an arc of the definitions has no depth, and a place is matched by case.
     OfArc {
         number: usize,
         parent: usize,

@@ -23,6 +23,6 @@ clash_norm N n ls s h = le_trans (links_norm (link_clashes n) N (n * 65535) one 
     one l o = norm_each 65535 n (λ i. pair (pos l.weight) (bit_number n l.u i) (bit_number n l.v i)) (λ k p q. omega (arith, o.weight_high))
 
 -- of the whole
-pub formula_norm_fact : (A N n : ℕ) (ls : List Link) → IsSurvey N ls → n ≤ 16 → A ≤ 2 ^ 32 → formula_norm (formula A N n ls) < 2 ^ 54
+pub formula_small : (A N n : ℕ) (ls : List Link) → IsSurvey N ls → n ≤ 16 → A ≤ 2 ^ 32 → formula_norm (formula A N n ls) < 2 ^ 54
 unfolding formula
-formula_norm_fact A N n ls s b c = omega (arith, norm_append (one_hots A N n) (clash_terms n ls), one_hots_small A N n s.meters_high b c, clash_norm N n ls s b)
+formula_small A N n ls s b c = omega (arith, norm_append (one_hots A N n) (clash_terms n ls), one_hots_small A N n s.meters_high b c, clash_norm N n ls s b)

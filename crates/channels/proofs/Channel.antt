@@ -13,13 +13,13 @@ use Rattle.links.specs.declared.Link.{Link}
 use Rattle.onehot.specs.Choices.{bit_at, set_at}
 use Rattle.onehot.proofs.Parts.{part_of, cut_lowest}
 use Rattle.channels.specs.Repair.{quietest, repair_one, repair_by, decoded, repaired}
-use Rattle.channels.proofs.Repaired.{quietest_picks, repair_silent, repair_lowest, repair_one_fact}
+use Rattle.channels.proofs.Repaired.{quietest_picks, repair_silent, repair_lowest, repair_one_choice}
 
 -- ---- a meter's channel
 
 -- it is a byte
 pub channel_le : (n : ℕ) (ls : List Link) (x p : List ℕ) (m r : ℕ) → 1 ≤ n → r ≡ repair_one n x (quietest n ls x p m) m → r ≤ n
-channel_le n ls x p m r h e = rw e (repair_one_fact n x (quietest n ls x p m) m (quietest_picks n ls x h p m).0 (quietest_picks n ls x h p m).1).1
+channel_le n ls x p m r h e = rw e (repair_one_choice n x (quietest n ls x p m) m (quietest_picks n ls x h p m).0 (quietest_picks n ls x h p m).1).1
 
 -- as the code finds it, from the lowest bit set in the part of meter m, if any is
 module _ (n N m : ℕ) (x : List ℕ) (m1 : 1 ≤ m) (mN : m ≤ N) (size : length x ≡ N * n) where

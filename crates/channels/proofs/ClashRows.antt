@@ -2,18 +2,16 @@
 use Prim.Native.Nat.{ℕ, suc, ◌+◌, ◌-◌, ◌*◌, ◌/◌, ◌%◌, ◌^◌, ◌≤◌, ◌<◌}
 use mathlib.Core.Path.{◌≡◌, refl, sym, ap, ap₂, ◌∙◌}
 use mathlib.Core.Bool.{true}
-use lib.Dec.{ltb}
-use mathlib.Core.List.{List, [], ◌∷◌, ◌++◌}
+use mathlib.Core.List.{List, [], ◌∷◌}
 use lib.ListN.{length}
 use lib.IntN.{ℤ, pos}
 use native.Mathlib.Omega.{arith}
 use native.Mathlib.Nat.{mod-lt}
-use borrow.Author.Tests.{ltb-true}
 use mir.Syntax.{w64}
 use mir.Val.{to_z}
 use mir.Facts.{to_z_pos}
 use Rattle.lists.specs.Tests.{all}
-use Rattle.lists.proofs.Tests.{all_head, all_tail}
+use Rattle.lists.proofs.Tests.{equal, other, equal?, all_head, all_tail}
 use Rattle.links.specs.Links.{link_ok, nothing, link_in}
 use Rattle.links.specs.declared.Link.{Link}
 use Rattle.links.specs.Survey.{LinkOf}
@@ -25,7 +23,7 @@ use Rattle.qubo.specs.Table.{row_of}
 use Rattle.qubo.specs.Rows.{zeros, add_terms, Room}
 use Rattle.qubo.proofs.Families.{norm_part, norm_append}
 use Rattle.qubo.proofs.RowAction.{each_nothing, add_only, add_over, row_next, row_top, row_room}
-use Rattle.qubo.proofs.RowWalk.{Walked, walked_start, walked_room, walked_turn, walked_stop}
+use Rattle.qubo.proofs.RowWalk.{Walked, walked_start, walked_room, walked_turn, walked_end}
 use Rattle.qubo.proofs.RowTerms.{pair_nothing, pair_absent}
 use Rattle.onehot.specs.Choices.{bit_number, one_hots}
 use Rattle.onehot.specs.Inner.{WithChoices}
@@ -34,7 +32,7 @@ use Rattle.onehot.proofs.Rows.{bit_meter, bit_choice, bit_rise, own_bit, higher_
 use Rattle.onehot.proofs.LinkTerms.{left, left_all, left_next, left_none}
 use Rattle.channels.specs.Formula.{link_clashes, clash_terms, formula}
 use Rattle.channels.proofs.Bound.{clash_norm}
-use Rattle.channels.proofs.Halves.{Halves, upper_at, upper_past}
+use Rattle.channels.proofs.Halves.{upward, upward_yes, upward_no, TurnAt}
 
 -- ---- the terms of one link
 
@@ -60,76 +58,67 @@ module _ (N n i : ℕ) (n1 : 1 ≤ n) (l : Link) (o : LinkOf N l) where
 -- ---- add_clashes, link by link
 
 module _ (N n i : ℕ) (n1 : 1 ≤ n) where
-  -- the links of lower meters add nothing
-  lower_nothing : (lower upper : List Link) → all (link_ok N) lower ≡ true → all (λ l. ltb l.u (i / n + 1)) lower ≡ true → (r : List ℤ) → add_terms (over (lower ++ upper) (link_clashes n)) i r ≡ add_terms (over upper (link_clashes n)) i r
-  lower_nothing [] upper o e r = refl
-  lower_nothing (l ∷ lower) upper o e r =
-      add_over l (lower ++ upper) (link_clashes n) i r
-      ∙ ap (add_terms (over (lower ++ upper) (link_clashes n)) i) (link_nothing N n i n1 l (link_of N l (all_head (link_ok N) l lower o)) (λ d. omega (arith, ltb-true l.u (i / n + 1) (all_head (λ x. ltb x.u (i / n + 1)) l lower e))) r)
-      ∙ lower_nothing lower upper (all_tail (link_ok N) l lower o) (all_tail (λ x. ltb x.u (i / n + 1)) l lower e) r
+  -- only the links from the meter of bit i up add something
+  upward_clashes : (ls : List Link) → all (link_ok N) ls ≡ true → (r : List ℤ) → add_terms (over ls (link_clashes n)) i r ≡ add_terms (over (upward (i / n + 1) ls) (link_clashes n)) i r
+  unfolding upward
+  upward_clashes [] o r = refl
+  upward_clashes (l ∷ ls) o r =
+      let rest = upward_clashes ls (all_tail (link_ok N) l ls o) in
+      add_over l ls (link_clashes n) i r
+      ∙ elim (equal? l.u (i / n + 1)) [
+        | equal e ↦ rw (upward_yes (i / n + 1) l ls e) (rest _ ∙ sym (add_over l (upward (i / n + 1) ls) (link_clashes n) i r))
+        | other e ↦ rw (upward_no (i / n + 1) l ls e) (ap (add_terms (over ls (link_clashes n)) i) (link_nothing N n i n1 l (link_of N l (all_head (link_ok N) l ls o)) e r) ∙ rest r)
+      ]
 
--- so there is room for the others
-upper_room : (n : ℕ) (lower upper : List Link) (r : List ℤ) → Room (2 ^ 61) (over (lower ++ upper) (link_clashes n)) r → Room (2 ^ 61) (over upper (link_clashes n)) r
-upper_room n [] upper r h = h
-upper_room n (l ∷ lower) upper r h = upper_room n lower upper r (record { room = λ k. omega (arith, h.room k, norm_append (link_clashes n l) (over (lower ++ upper) (link_clashes n))) })
+-- so the norm of their terms is at most that of all
+upward_norm : (n m : ℕ) (ls : List Link) → formula_norm (over (upward m ls) (link_clashes n)) ≤ formula_norm (over ls (link_clashes n))
+unfolding upward
+upward_norm n m [] = omega arith
+upward_norm n m (l ∷ ls) =
+    elim (equal? l.u m) [
+      | equal e ↦ rw (upward_yes m l ls e) (omega (arith, norm_append (link_clashes n l) (over ls (link_clashes n)), norm_append (link_clashes n l) (over (upward m ls) (link_clashes n)), upward_norm n m ls))
+      | other e ↦ rw (upward_no m l ls e) (omega (arith, norm_append (link_clashes n l) (over ls (link_clashes n)), upward_norm n m ls))
+    ]
 
--- the terms of the link at k
-abbrev clashes_at : ℕ → List Link → ℕ → Formula
-clashes_at n ls k = link_clashes n (link_in ls k)
+-- the terms of the link at k of these
+abbrev clashes_at : ℕ → ℕ → List Link → ℕ → Formula
+clashes_at n i ls k = link_clashes n (link_in (upward (i / n + 1) ls) k)
 
--- the links before k are added to the row
+-- those before k are added to the row
 abbrev pub Added : ℕ → ℕ → List Link → List ℤ → List ℤ → ℕ → Type 0
-Added n i ls row₀ row k = Walked (2 ^ 61) (left (link_clashes n) ls) (length ls) i row₀ row k
+Added n i ls row₀ row k = Walked (2 ^ 61) (left (link_clashes n) (upward (i / n + 1) ls)) (length (upward (i / n + 1) ls)) i row₀ row k
 
-module _ (N n i : ℕ) (n1 : 1 ≤ n) (ls lower upper : List Link) (halves : Halves N (i / n + 1) ls lower upper) where
-  -- the bit of the other end of a link at the meter of bit i
-  pub turn_inside : (k : ℕ) → k < length upper → (link_in upper k).u ≡ i / n + 1 → (i / n + 1 ≤ (link_in upper k).v) × (i + ((link_in upper k).v - (i / n + 1)) * n < N * n)
-  turn_inside k h e =
-      let o = (upper_at _ _ _ _ _ halves k h).0 in
-      (omega (arith, o.ordered), higher_inside N n i (link_in upper k).v n1 (omega (arith, o.ordered)) o.v_high)
+module _ (N n i : ℕ) (n1 : 1 ≤ n) (ls : List Link) (ok : all (link_ok N) ls ≡ true) (row₀ : List ℤ) where
+  pub added_start : Room (2 ^ 61) (clash_terms n ls) row₀ → Added n i ls row₀ row₀ 0
+  unfolding clash_terms
+  added_start room = walked_start _ (clashes_at n i ls) _ _ _ (left_next (link_clashes n) _ nothing) (left_none (link_clashes n) _) row₀ (rw (left_all (link_clashes n) (upward (i / n + 1) ls)) (record { room = λ k. omega (arith, room.room k, upward_norm n (i / n + 1) ls) }))
 
-  module _ (row₀ : List ℤ) where
-    pub added_start : Room (2 ^ 61) (clash_terms n ls) row₀ → Added n i upper row₀ row₀ 0
+  module _ (row : List ℤ) (k : ℕ) (w : Added n i ls row₀ row k) where
+    pub added_end : length (upward (i / n + 1) ls) ≤ k → row ≡ add_terms (clash_terms n ls) i row₀
     unfolding clash_terms
-    added_start room = walked_start _ (clashes_at n upper) _ _ _ (left_next (link_clashes n) upper nothing) (left_none (link_clashes n) upper) row₀ (rw (left_all (link_clashes n) upper) (upper_room n lower upper row₀ (rw halves.whole room)))
+    added_end h =
+        walked_end _ (clashes_at n i ls) _ _ _ (left_next (link_clashes n) _ nothing) (left_none (link_clashes n) _) row₀ row k h w
+        ∙ rw (left_all (link_clashes n) (upward (i / n + 1) ls)) (sym (upward_clashes N n i n1 ls ok row₀))
 
-    module _ (row : List ℤ) (k : ℕ) (w : Added n i upper row₀ row k) where
-      -- those from k on add nothing where none has its lower end at the meter of bit i
-      stop : ((j : ℕ) → k ≤ j → j < length upper → (link_in upper j).u ≡ i / n + 1 → ⊥) → row ≡ add_terms (clash_terms n ls) i row₀
-      unfolding clash_terms
-      stop ne =
-          walked_stop _ (clashes_at n upper) _ _ _ (left_next (link_clashes n) upper nothing) (left_none (link_clashes n) upper) row₀ row k
-          (λ j g l. link_nothing N n i n1 (link_in upper j) (upper_at _ _ _ _ _ halves j l).0 (ne j g l)) w
-          ∙ rw (left_all (link_clashes n) upper, ← halves.whole) (sym (lower_nothing N n i n1 lower upper halves.lower_ok halves.lower_ends row₀))
+    -- a turn, at the link l
+    module _ (l : Link) (t : TurnAt N (i / n + 1) ls k l) where
+      -- the bit of its other end
+      pub turn_inside : (i / n + 1 ≤ l.v) × (i + (l.v - (i / n + 1)) * n < N * n)
+      turn_inside = (omega (arith, t.link.ordered, t.low), higher_inside N n i l.v n1 (omega (arith, t.link.ordered, t.low)) t.link.v_high)
 
-      pub added_all : length upper ≤ k → row ≡ add_terms (clash_terms n ls) i row₀
-      added_all h = stop (λ j g l. absurd (omega arith))
+      -- the weight as the code has it, a signed number
+      weight_is : to_z w64 l.weight ≡ pos l.weight
+      weight_is = to_z_pos w64 (omega (arith, t.link.weight_high))
 
-      module _ (h : k < length upper) where
-        -- from the first link of a higher meter on all are of higher meters
-        pub added_stop : ((link_in upper k).u ≡ i / n + 1 → ⊥) → row ≡ add_terms (clash_terms n ls) i row₀
-        added_stop ne = stop (λ j g l e. omega (arith, upper_past _ _ _ _ _ halves k h ne j g l))
+      pub turn_room : Room (2 ^ 61) (pair (to_z w64 l.weight) i (i + (l.v - (i / n + 1)) * n) ∷ []) row
+      turn_room =
+          let g : Room (2 ^ 61) (clashes_at n i ls k) row = walked_room _ (clashes_at n i ls) _ _ _ (left_next (link_clashes n) _ nothing) (left_none (link_clashes n) _) row₀ row k t.inside w in
+          rw weight_is (record { room = λ j. omega (arith, rw t.here at (g.room j), pair_norm N n i n1 l t.link i (i + (l.v - (i / n + 1)) * n)) })
 
-        module _ (e : (link_in upper k).u ≡ i / n + 1) where
-          turn_room : Room (2 ^ 61) (pair (pos (link_in upper k).weight) i (i + ((link_in upper k).v - (i / n + 1)) * n) ∷ []) row
-          turn_room =
-              let g : Room (2 ^ 61) (clashes_at n upper k) row = walked_room _ (clashes_at n upper) _ _ _ (left_next (link_clashes n) upper nothing) (left_none (link_clashes n) upper) row₀ row k h w in
-              record { room = λ j. omega (arith, g.room j, pair_norm N n i n1 (link_in upper k) (upper_at _ _ _ _ _ halves k h).0 i (i + ((link_in upper k).v - (i / n + 1)) * n)) }
-
-          added_turn : (next : List ℤ) → next ≡ add_terms (pair (pos (link_in upper k).weight) i (i + ((link_in upper k).v - (i / n + 1)) * n) ∷ []) i row → Added n i upper row₀ next (k + 1)
-          added_turn next a =
-              walked_turn _ (clashes_at n upper) _ _ _ (left_next (link_clashes n) upper nothing) (left_none (link_clashes n) upper) row₀ row k h w next
-              (link_pair N n i n1 (link_in upper k) (upper_at _ _ _ _ _ halves k h).0 e row ∙ sym a)
-
-          -- the same of the weight as the code has it, a signed number
-          weight_is : to_z w64 (link_in upper k).weight ≡ pos (link_in upper k).weight
-          weight_is = to_z_pos w64 (omega (arith, (upper_at _ _ _ _ _ halves k h).0.weight_high))
-
-          pub weight_room : Room (2 ^ 61) (pair (to_z w64 (link_in upper k).weight) i (i + ((link_in upper k).v - (i / n + 1)) * n) ∷ []) row
-          weight_room = rw weight_is turn_room
-
-          pub weight_turn : (next : List ℤ) → next ≡ add_terms (pair (to_z w64 (link_in upper k).weight) i (i + ((link_in upper k).v - (i / n + 1)) * n) ∷ []) i row → Added n i upper row₀ next (k + 1)
-          weight_turn next a = added_turn next (rw weight_is at a)
+      pub added_turn : (next : List ℤ) → next ≡ add_terms (pair (to_z w64 l.weight) i (i + (l.v - (i / n + 1)) * n) ∷ []) i row → Added n i ls row₀ next (k + 1)
+      added_turn next a =
+          walked_turn _ (clashes_at n i ls) _ _ _ (left_next (link_clashes n) _ nothing) (left_none (link_clashes n) _) row₀ row k t.inside w next
+          (rw t.here (link_pair N n i n1 l t.link t.low row ∙ sym (rw weight_is at a)))
 
 -- ---- row_into: zeros, then the penalty, then the clashes
 

@@ -18,7 +18,7 @@ use Rattle.qubo.proofs.Least.{least_assignment}
 use Rattle.qubo.proofs.TableBound.{table_bound}
 use Rattle.qubo.proofs.Plans.{Sound}
 use Rattle.onehot.specs.Choices.{bit_at}
-use Rattle.onehot.proofs.Codes.{choices_are, are_choices_fact, bit_code, code_bits_fact, one_each}
+use Rattle.onehot.proofs.Codes.{choices_are, choices_test, bit_code, code_assigned, one_each}
 use Rattle.channels.specs.Formula.{within_limits, bit_count, formula}
 use Rattle.channels.specs.Plans.{is_plan, code_of, clash_weight}
 use Rattle.channels.specs.Repair.{quietest, repair_by, decoded, repaired}
@@ -26,21 +26,21 @@ use Rattle.channels.specs.Instance.{instance}
 use Rattle.channels.proofs.Load.{Heavy}
 use Rattle.channels.proofs.Asking.{limit_low, limit_high}
 use Rattle.channels.proofs.Worth.{formula_value}
-use Rattle.channels.proofs.Bound.{formula_norm_fact}
+use Rattle.channels.proofs.Bound.{formula_small}
 use Rattle.channels.proofs.Step.{worth}
 use Rattle.channels.proofs.Repaired.{worth_eq, plan_worth, Picks, quietest_picks, repair_plan, repair_bound, repair_hot, repair_code, none_repaired, hot_repaired}
 
 -- ---- a plan and its code
 
 -- "A plan is N bytes"
-plan_bytes_fact : (N n : ℕ) (p : List ℕ) → is_plan N n p ≡ true → length p ≡ N
+plan_bytes_length : (N n : ℕ) (p : List ℕ) → is_plan N n p ≡ true → length p ≡ N
 unfolding is_plan
-plan_bytes_fact N n p e = (choices_are N n p e).size
+plan_bytes_length N n p e = (choices_are N n p e).size
 
 -- its code is an assignment
 code_assignment : (N n : ℕ) (p : List ℕ) → is_plan N n p ≡ true → Assignment (bit_count N n) (code_of n p)
 unfolding is_plan code_of
-code_assignment N n p e = code_bits_fact N n p (choices_are N n p e)
+code_assignment N n p e = code_assigned N n p (choices_are N n p e)
 
 -- which decodes to that plan, with none repaired
 code_decoded : (N n : ℕ) (ls : List Link) → 1 ≤ n → (p : List ℕ) → is_plan N n p ≡ true → (decoded N n ls (code_of n p) ≡ p) × (repaired N n (code_of n p) ≡ 0)
@@ -62,8 +62,8 @@ module _ (N n : ℕ) (ls : List Link) (s : IsSurvey N ls) (w : within_limits n �
 
   pub sound : A ≤ 2 ^ 32 → Sound I
   sound small = record {
-    small = omega (arith, table_bound (formula A N n ls) (bit_count N n), formula_norm_fact A N n ls s (limit_high n w) small);
-    plan_bytes_fact = plan_bytes_fact N n;
+    small = omega (arith, table_bound (formula A N n ls) (bit_count N n), formula_small A N n ls s (limit_high n w) small);
+    plan_bytes_length = plan_bytes_length N n;
     assigned = code_assignment N n;
     decodes_code = λ p e. refl;
     decoded_code = λ p e. (code_decoded N n ls (limit_low n w) p e).0;
@@ -96,7 +96,7 @@ module _ (N n : ℕ) (ls : List Link) (s : IsSurvey N ls) (w : within_limits n �
         → (is_plan N n (repair_by pick n x N) ≡ true) × (pos (clash_weight ls (repair_by pick n x N) + repaired N n x) ≤ℤ energy_of I x)
     unfolding is_plan
     repair_energy pick picks x a = (
-      are_choices_fact N n (repair_by pick n x N) (repair_plan pick n x picks N),
+      choices_test N n (repair_by pick n x N) (repair_plan pick n x picks N),
       subst (λ z. pos (clash_weight ls (repair_by pick n x N) + repaired N n x) ≤ℤ z) (sym (energy_worth x)) (≤ℤ_pos (repair_bound pick n x picks A N ls a.bits heavy s.each)),
     )
 

@@ -1,24 +1,30 @@
 -- Laws that the proofs of src/repairing.rt cite: what each meter bears and what a meter hears of it, gathered link by link, and the channel on which it hears least. Assumes nothing.
-use Prim.Native.Nat.{ℕ, zero, suc, ◌+◌, ◌-◌, ◌*◌, ◌≤◌, ◌<◌}
+use Prim.Native.Nat.{ℕ, ◌+◌, ◌-◌, ◌*◌, ◌≤◌, ◌<◌}
 use mathlib.Core.Path.{◌≡◌, refl, sym, ap, ◌∙◌, subst}
-use mathlib.Core.List.{List, ◌∷◌, ◌++◌}
+use mathlib.Core.Bool.{true}
+use mathlib.Core.List.{List, [], ◌∷◌, ◌++◌}
+use lib.Dec.{leb}
 use lib.ListN.{length, get_or, set, drop, length-set}
-use lib.Seq.{drop-cons}
+use lib.Seq.{drop-cons, drop-length}
 use native.Mathlib.Omega.{arith}
+use borrow.Author.Tests.{leb-true}
 use native.Mathlib.Numerals.{add-one}
 use native.Mathlib.Nat.{mul-le-mul_right, mul-zero, zero-mul, one-mul, zero-add, add-zero}
+use Rattle.lists.specs.Tests.{all}
 use Rattle.lists.specs.Sums.{sum_of, least_at, same, nth}
+use Rattle.lists.proofs.Tests.{equal, other, equal?, all_head, all_tail}
 use Rattle.lists.proofs.Sums.{same_yes, same_no, same_le, nth_index, times_bit, least_at_eq, least_at_one, least_at_new, least_at_old}
 use Rattle.lists.proofs.Stores.{added_same}
-use Rattle.lists.proofs.Walks.{sum_next, sum_past}
-use Rattle.links.specs.Links.{nothing, link_in}
+use Rattle.lists.proofs.Walks.{sum_past}
+use Rattle.links.specs.Links.{link_ok, nothing, link_in}
 use Rattle.links.specs.declared.Link.{Link}
 use Rattle.links.specs.Survey.{LinkOf}
+use Rattle.links.proofs.Altered.{link_of}
 use Rattle.qubo.specs.Formula.{Assignment}
 use Rattle.onehot.proofs.Parts.{part_of}
 use Rattle.onehot.proofs.Turns.{cut_length, cut_at}
 use Rattle.channels.specs.Repair.{bears, heard, quietest}
-use Rattle.channels.proofs.Halves.{Halves, lower_at, upper_at, upper_past}
+use Rattle.channels.proofs.Halves.{Halves, upward, upward_yes, upward_no, lower_at, upward_second, parts_few, TurnAt}
 use Rattle.channels.proofs.Repaired.{bears_low, bears_high}
 
 -- ---- add_borne: w added for each channel that meter m bears
@@ -71,29 +77,35 @@ module _ (b : ℕ → ℕ → ℕ) (m i : ℕ) (l : Link) where
   unfolding hears
   hears_none e d = rw (same_no l.u m e, same_no l.v m d, zero-mul (b l.v i), zero-mul (b l.u i), mul-zero) refl
 
--- in place i stands what m hears on channel i of the links but those of `rest`, and no place holds much after so many links
-pub record HeardBut (n : ℕ) (x p : List ℕ) (ls : List Link) (m : ℕ) (rest : List Link) (links : ℕ) (sums : List ℕ) : Type 0 where
+-- the links of `rest` whose lower end is above m are not heard
+hears_upward : (N : ℕ) (b : ℕ → ℕ → ℕ) (m i : ℕ) (rest : List Link) → all (link_ok N) rest ≡ true → all (λ l. leb m l.u) rest ≡ true → sum_of (upward m rest) (hears b m i) ≡ sum_of rest (hears b m i)
+unfolding upward sum_of
+hears_upward N b m i [] o e = refl
+hears_upward N b m i (l ∷ rest) o e =
+    let low : m ≤ l.u = leb-true m l.u (all_head (λ x. leb m x.u) l rest e) in
+    let more = hears_upward N b m i rest (all_tail (link_ok N) l rest o) (all_tail (λ x. leb m x.u) l rest e) in
+    elim (equal? l.u m) [
+      | equal d ↦ rw (upward_yes m l rest d) (ap (λ t. hears b m i l + t) more)
+      | other d ↦ rw (upward_no m l rest d) (omega (arith, more, hears_none b m i l d (λ q. omega (arith, low, (link_of N l (all_head (link_ok N) l rest o)).ordered))))
+    ]
+
+-- a sum whose last part is another list with the same sum
+sum_last : (f : Link → ℕ) (xs ys zs : List Link) → sum_of ys f ≡ sum_of zs f → sum_of (xs ++ ys) f ≡ sum_of (xs ++ zs) f
+unfolding sum_of
+sum_last f [] ys zs h = h
+sum_last f (x ∷ xs) ys zs h = ap (λ t. f x + t) (sum_last f xs ys zs h)
+
+-- in place i stands what m hears on channel i of the links but those of `rest`, and no place holds much while some are left
+pub record HeardBut (n : ℕ) (x p : List ℕ) (ls : List Link) (m : ℕ) (rest : List Link) (sums : List ℕ) : Type 0 where
   pub size : length sums ≡ 256
-  pub small : (i : ℕ) → get_or sums i 0 ≤ 65535 * links
+  pub small : (i : ℕ) → get_or sums i 0 + 65535 * length rest ≤ 16776960
   pub so_far : (i : ℕ) → 1 ≤ i → i ≤ n → get_or sums i 0 + sum_of rest (hears (bears n x p) m i) ≡ sum_of ls (hears (bears n x p) m i)
 
-module _ (n : ℕ) (x p : List ℕ) (ls : List Link) (m : ℕ) where
-  pub heard_start : (s : List ℕ) → length s ≡ 256 → ((i : ℕ) → get_or s i 0 ≡ 0) → HeardBut n x p ls m ls 0 s
-  heard_start s e z = record { size = e; small = λ i. omega (arith, z i); so_far = λ i a b. omega (arith, z i) }
-
-  pub heard_end : (rest : List Link) (k : ℕ) (s : List ℕ) → HeardBut n x p ls m rest k s → ((i : ℕ) → sum_of rest (hears (bears n x p) m i) ≡ 0) → (i : ℕ) → 1 ≤ i → i ≤ n → get_or s i 0 ≡ heard ls (bears n x p) m i
-  unfolding heard hears
-  heard_end rest k s g z i a b = omega (arith, g.so_far i a b, z i)
-
 -- a turn: the link l, which is the first of the rest
-module _ (N n : ℕ) (x p : List ℕ) (ls : List Link) (m : ℕ) (l : Link) (o : LinkOf N l) (rest : List Link) (k : ℕ) (few : k < 256) (s : List ℕ) (g : HeardBut n x p ls m (l ∷ rest) k s) where
-  -- what add_borne asks of the sums
-  pub link_room : (length s ≡ 256) × (l.weight ≤ 65535) × ((i : ℕ) → get_or s i 0 < 4294967296)
-  link_room = (g.size, o.weight_high, λ i. omega (arith, g.small i))
-
+module _ (N n : ℕ) (x p : List ℕ) (ls : List Link) (m : ℕ) (l : Link) (o : LinkOf N l) (rest : List Link) (s : List ℕ) (g : HeardBut n x p ls m (l ∷ rest) s) where
   module _ (t : List ℕ) where
     -- for an end whose channels are what m hears of the link
-    added : (e : ℕ) → BorneAdded n x p e l.weight s t → ((i : ℕ) → l.weight * bears n x p e i ≡ hears (bears n x p) m i l) → HeardBut n x p ls m rest (k + 1) t
+    added : (e : ℕ) → BorneAdded n x p e l.weight s t → ((i : ℕ) → l.weight * bears n x p e i ≡ hears (bears n x p) m i l) → HeardBut n x p ls m rest t
     unfolding sum_of
     added e b d = record {
       size = b.0;
@@ -102,13 +114,13 @@ module _ (N n : ℕ) (x p : List ℕ) (ls : List Link) (m : ℕ) (l : Link) (o :
     }
 
     -- a link from m up, one from m down, and one of other meters
-    pub heard_up : l.u ≡ m → BorneAdded n x p l.v l.weight s t → HeardBut n x p ls m rest (k + 1) t
+    heard_up : l.u ≡ m → BorneAdded n x p l.v l.weight s t → HeardBut n x p ls m rest t
     heard_up e b = added l.v b (λ i. hears_up (bears n x p) m i l o.ordered e)
 
-    pub heard_down : (l.u ≡ m → ⊥) → l.v ≡ m → BorneAdded n x p l.u l.weight s t → HeardBut n x p ls m rest (k + 1) t
+    heard_down : (l.u ≡ m → ⊥) → l.v ≡ m → BorneAdded n x p l.u l.weight s t → HeardBut n x p ls m rest t
     heard_down e d b = added l.u b (λ i. hears_down (bears n x p) m i l e d)
 
-  pub heard_none : (l.u ≡ m → ⊥) → (l.v ≡ m → ⊥) → HeardBut n x p ls m rest (k + 1) s
+  heard_none : (l.u ≡ m → ⊥) → (l.v ≡ m → ⊥) → HeardBut n x p ls m rest s
   unfolding sum_of
   heard_none e d = record {
     size = g.size;
@@ -116,74 +128,63 @@ module _ (N n : ℕ) (x p : List ℕ) (ls : List Link) (m : ℕ) (l : Link) (o :
     so_far = λ i a b. omega (arith, g.so_far i a b, hears_none (bears n x p) m i l e d);
   }
 
--- nothing is heard of the links from k on where none has an end m
-rest_none : (b : ℕ → ℕ → ℕ) (m i : ℕ) (xs : List Link) (r k : ℕ) → r + k ≡ length xs → ((j : ℕ) → k ≤ j → j < length xs → ((link_in xs j).u ≡ m → ⊥) × ((link_in xs j).v ≡ m → ⊥)) → sum_of (drop k xs) (hears b m i) ≡ 0
-rest_none b m i xs zero k e h = sum_past (hears b m i) xs k (omega arith)
-rest_none b m i xs (suc r) k e h =
-    let t = h k (omega arith) (omega arith) in
-    omega (arith, sum_next (hears b m i) xs nothing k (omega arith), hears_none b m i (link_in xs k) t.0 t.1, rest_none b m i xs r (k + 1) (omega arith) (λ j a c. h j (omega arith) c))
-
 -- ---- its two loops
 
 -- the links of lower neighbours before k are done
-abbrev pub HeardLower : ℕ → List ℕ → List ℕ → List Link → ℕ → List Link → List Link → ℕ → List ℕ → Type 0
-HeardLower n x p ls m lower upper k s = HeardBut n x p ls m (drop k lower ++ upper) k s
+abbrev pub HeardLower : ℕ → List ℕ → List ℕ → List Link → ℕ → List Link → ℕ → List ℕ → Type 0
+HeardLower n x p ls m lower k s = HeardBut n x p ls m (drop k lower ++ upward m ls) s
 
 -- and all of these, and those of higher neighbours before k
-abbrev pub HeardUpper : ℕ → List ℕ → List ℕ → List Link → ℕ → List Link → ℕ → List ℕ → Type 0
-HeardUpper n x p ls m upper k s = HeardBut n x p ls m (drop k upper) (length ls - length upper + k) s
+abbrev pub HeardUpper : ℕ → List ℕ → List ℕ → List Link → ℕ → ℕ → List ℕ → Type 0
+HeardUpper n x p ls m k s = HeardBut n x p ls m (drop k (upward m ls)) s
 
 module _ (N n : ℕ) (x p : List ℕ) (m : ℕ) (ls lower upper : List Link) (parts : Halves N m ls lower upper) where
-  pub lower_start : (s : List ℕ) → length s ≡ 256 → ((i : ℕ) → get_or s i 0 ≡ 0) → HeardLower n x p ls m lower upper 0 s
-  lower_start s e z = subst (λ (r : List Link). HeardBut n x p ls m r 0 s) (sym parts.whole) (heard_start n x p ls m s e z)
+  heard_all : (i : ℕ) → sum_of (lower ++ upward m ls) (hears (bears n x p) m i) ≡ sum_of ls (hears (bears n x p) m i)
+  heard_all i =
+      let f = hears (bears n x p) m i in
+      sum_last f lower (upward m ls) upper (ap (λ (r : List Link). sum_of r f) (upward_second N m ls lower upper parts) ∙ hears_upward N (bears n x p) m i upper parts.upper_ok parts.upper_ends)
+      ∙ ap (λ (r : List Link). sum_of r f) parts.whole
 
-  module _ (k : ℕ) (s : List ℕ) (g : HeardLower n x p ls m lower upper k s) where
+  pub lower_start : (s : List ℕ) → length s ≡ 256 → ((i : ℕ) → get_or s i 0 ≡ 0) → HeardLower n x p ls m lower 0 s
+  lower_start s e z = record {
+    size = e;
+    small = λ i. omega (arith, z i, parts_few N m ls lower upper parts);
+    so_far = λ i a b. omega (arith, z i, heard_all i);
+  }
+
+  module _ (k : ℕ) (s : List ℕ) (g : HeardLower n x p ls m lower k s) where
+    -- all of them are done
+    pub lower_end : k ≡ length lower → HeardUpper n x p ls m 0 s
+    lower_end e = subst (λ (r : List Link). HeardBut n x p ls m r s) (ap (λ (j : ℕ). drop j lower ++ upward m ls) e ∙ ap (λ (r : List Link). r ++ upward m ls) (drop-length lower)) g
+
     module _ (h : k < length lower) where
-      lower_open : HeardBut n x p ls m (link_in lower k ∷ (drop (k + 1) lower ++ upper)) k s
-      lower_open = subst (λ (r : List Link). HeardBut n x p ls m r k s) (ap (λ (r : List Link). r ++ upper) (drop-cons lower k nothing h) ∙ rw add-one refl) g
+      lower_open : HeardBut n x p ls m (link_in lower k ∷ (drop (k + 1) lower ++ upward m ls)) s
+      lower_open = subst (λ (r : List Link). HeardBut n x p ls m r s) (ap (λ (r : List Link). r ++ upward m ls) (drop-cons lower k nothing h) ∙ rw add-one refl) g
 
-      pub lower_room : (length s ≡ 256) × ((link_in lower k).weight ≤ 65535) × ((i : ℕ) → get_or s i 0 < 4294967296)
-      lower_room = link_room N n x p ls m (link_in lower k) (lower_at N m ls lower upper parts k h).0 (drop (k + 1) lower ++ upper) k (omega (arith, parts.few, parts.sizes)) s lower_open
-
-      pub lower_meter : (1 ≤ (link_in lower k).u) × ((link_in lower k).u ≤ N)
-      lower_meter = let o = (lower_at N m ls lower upper parts k h).0 in (o.u_low, omega (arith, o.ordered, o.v_high))
+      link : LinkOf N (link_in lower k)
+      link = (lower_at N m ls lower upper parts k h).0
 
       other_end : (link_in lower k).u ≡ m → ⊥
       other_end e = omega (arith, (lower_at N m ls lower upper parts k h).1)
 
-      pub lower_turn : (t : List ℕ) → (link_in lower k).v ≡ m → BorneAdded n x p (link_in lower k).u (link_in lower k).weight s t → HeardLower n x p ls m lower upper (k + 1) t
-      lower_turn t = heard_down N n x p ls m (link_in lower k) (lower_at N m ls lower upper parts k h).0 (drop (k + 1) lower ++ upper) k (omega (arith, parts.few, parts.sizes)) s lower_open t other_end
+      pub lower_meter : (1 ≤ (link_in lower k).u) × ((link_in lower k).u ≤ N)
+      lower_meter = (link.u_low, omega (arith, link.ordered, link.v_high))
 
-      pub lower_skip : ((link_in lower k).v ≡ m → ⊥) → HeardLower n x p ls m lower upper (k + 1) s
-      lower_skip = heard_none N n x p ls m (link_in lower k) (lower_at N m ls lower upper parts k h).0 (drop (k + 1) lower ++ upper) k (omega (arith, parts.few, parts.sizes)) s lower_open other_end
+      pub lower_turn : (t : List ℕ) → (link_in lower k).v ≡ m → BorneAdded n x p (link_in lower k).u (link_in lower k).weight s t → HeardLower n x p ls m lower (k + 1) t
+      lower_turn t = heard_down N n x p ls m (link_in lower k) link (drop (k + 1) lower ++ upward m ls) s lower_open t other_end
 
-  module _ (k : ℕ) (s : List ℕ) (g : HeardUpper n x p ls m upper k s) where
-    module _ (h : k < length upper) where
-      upper_open : HeardBut n x p ls m (link_in upper k ∷ drop (k + 1) upper) (length ls - length upper + k) s
-      upper_open = subst (λ (r : List Link). HeardBut n x p ls m r (length ls - length upper + k) s) (drop-cons upper k nothing h ∙ rw add-one refl) g
+      pub lower_skip : ((link_in lower k).v ≡ m → ⊥) → HeardLower n x p ls m lower (k + 1) s
+      lower_skip = heard_none N n x p ls m (link_in lower k) link (drop (k + 1) lower ++ upward m ls) s lower_open other_end
 
-      pub upper_room : (length s ≡ 256) × ((link_in upper k).weight ≤ 65535) × ((i : ℕ) → get_or s i 0 < 4294967296)
-      upper_room = link_room N n x p ls m (link_in upper k) (upper_at N m ls lower upper parts k h).0 (drop (k + 1) upper) (length ls - length upper + k) (omega (arith, parts.few, parts.sizes)) s upper_open
+module _ (n : ℕ) (x p : List ℕ) (m : ℕ) (ls : List Link) (k : ℕ) (s : List ℕ) (g : HeardUpper n x p ls m k s) where
+  -- a turn, at the link l
+  pub upper_turn : (N : ℕ) (l : Link) → TurnAt N m ls k l → (t : List ℕ) → BorneAdded n x p l.v l.weight s t → HeardUpper n x p ls m (k + 1) t
+  upper_turn N l a t =
+      heard_up N n x p ls m l a.link (drop (k + 1) (upward m ls)) s (rw (← a.here) (subst (λ (r : List Link). HeardBut n x p ls m r s) (drop-cons (upward m ls) k nothing a.inside ∙ rw add-one refl) g)) t a.low
 
-      pub upper_meter : (1 ≤ (link_in upper k).v) × ((link_in upper k).v ≤ N)
-      upper_meter = let o = (upper_at N m ls lower upper parts k h).0 in (omega (arith, o.u_low, o.ordered), o.v_high)
-
-      pub upper_turn : (t : List ℕ) → (link_in upper k).u ≡ m → BorneAdded n x p (link_in upper k).v (link_in upper k).weight s t → HeardUpper n x p ls m upper (k + 1) t
-      upper_turn t e b =
-          let q : length ls - length upper + (k + 1) ≡ length ls - length upper + k + 1 = omega arith in
-          rw q (heard_up N n x p ls m (link_in upper k) (upper_at N m ls lower upper parts k h).0 (drop (k + 1) upper) (length ls - length upper + k) (omega (arith, parts.few, parts.sizes)) s upper_open t e b)
-
-      -- from the first link of a higher meter on, none has an end m
-      pub upper_stop : ((link_in upper k).u ≡ m → ⊥) → (i : ℕ) → 1 ≤ i → i ≤ n → get_or s i 0 ≡ heard ls (bears n x p) m i
-      upper_stop ne =
-          heard_end n x p ls m (drop k upper) (length ls - length upper + k) s g
-          (λ i. rest_none (bears n x p) m i upper (length upper - k) k (omega arith) (λ j a b.
-          let past = upper_past N m ls lower upper parts k h ne j a b in
-          let o = (upper_at N m ls lower upper parts j b).0 in
-          (λ e. omega arith, λ e. omega (arith, o.ordered))))
-
-    pub upper_end : length upper ≤ k → k ≤ length upper → (i : ℕ) → 1 ≤ i → i ≤ n → get_or s i 0 ≡ heard ls (bears n x p) m i
-    upper_end a b = heard_end n x p ls m (drop k upper) (length ls - length upper + k) s g (λ i. sum_past (hears (bears n x p) m i) upper k (omega arith))
+  pub upper_end : k ≡ length (upward m ls) → (i : ℕ) → 1 ≤ i → i ≤ n → get_or s i 0 ≡ heard ls (bears n x p) m i
+  unfolding heard hears
+  upper_end e i a b = omega (arith, g.so_far i a b, sum_past (hears (bears n x p) m i) (upward m ls) k e)
 
 -- ---- least_sum: the place of 1..i whose sum is least
 

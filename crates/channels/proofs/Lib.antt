@@ -11,4 +11,3 @@ pub mod Halves
 pub mod ClashRows
 pub mod Hearing
 pub mod Channel
-pub mod Chunks

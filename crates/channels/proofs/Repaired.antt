@@ -18,7 +18,7 @@ use Rattle.links.specs.declared.Link.{Link}
 use Rattle.links.proofs.Walk.{sum_equal}
 use Rattle.qubo.specs.Formula.{Bits, Assignment}
 use Rattle.onehot.specs.Choices.{bit_at, set_at, miss_squared, misses, code}
-use Rattle.onehot.proofs.Codes.{Choices, Hot, hot_code, code_inj, code_bits_fact, one_each}
+use Rattle.onehot.proofs.Codes.{Choices, Hot, hot_code, code_inj, code_assigned, one_each}
 use Rattle.channels.specs.Formula.{clashing_of}
 use Rattle.channels.specs.Plans.{clash_weight}
 use Rattle.channels.specs.Repair.{bears, heard, quietest, repair_one, repair_by, repaired}
@@ -104,8 +104,8 @@ module _ (n : ℕ) (x : List ℕ) (silent m : ℕ) where
   lowest_set e = lowest_ok n (bit_at n x m) (omega arith)
 
   -- it is one of 1..n, and a bit that is set, unless none is
-  pub repair_one_fact : 1 ≤ silent → silent ≤ n → (1 ≤ repair_one n x silent m) × (repair_one n x silent m ≤ n) × ((1 ≤ bit_at n x m (repair_one n x silent m)) ⊎ (set_at n (bit_at n x) m ≡ 0))
-  repair_one_fact a b =
+  pub repair_one_choice : 1 ≤ silent → silent ≤ n → (1 ≤ repair_one n x silent m) × (repair_one n x silent m ≤ n) × ((1 ≤ bit_at n x m (repair_one n x silent m)) ⊎ (set_at n (bit_at n x) m ≡ 0))
+  repair_one_choice a b =
       elim (ℕ_discrete (set_at n (bit_at n x) m) 0) [
         | yes e ↦ rw (repair_silent e) (a, b, inr e)
         | no e ↦ (let t : (1 ≤ lowest n (bit_at n x m)) × (lowest n (bit_at n x m) ≤ n) × (1 ≤ bit_at n x m (lowest n (bit_at n x m))) = lowest_set e in
@@ -130,7 +130,7 @@ module _ (pick : List ℕ → ℕ → ℕ) (n : ℕ) (x : List ℕ) (picks : Pic
 
   settled_ok : (k : ℕ) → (1 ≤ settled k) × (settled k ≤ n) × ((1 ≤ bit_at n x (suc k) (settled k)) ⊎ (set_at n (bit_at n x) (suc k) ≡ 0))
   unfolding settled
-  settled_ok k = repair_one_fact n x (pick (repair_by pick n x k) (suc k)) (suc k) (picks _ _).0 (picks _ _).1
+  settled_ok k = repair_one_choice n x (pick (repair_by pick n x k) (suc k)) (suc k) (picks _ _).0 (picks _ _).1
 
   -- each meter has its channel
   repair_nth : (k j : ℕ) → j < k → nth (repair_by pick n x k) (suc j) ≡ settled j
@@ -222,7 +222,7 @@ module _ (pick : List ℕ → ℕ → ℕ) (N n : ℕ) (n1 : 1 ≤ n) where
   pub repair_code : (p : List ℕ) → Picks n pick → Choices N n p → repair_by pick n (code n p) N ≡ p
   repair_code p picks ok =
       code_inj N n (repair_by pick n (code n p) N) p (repair_plan pick n (code n p) picks N) ok
-      (sym (repair_hot (code n p) picks (code_bits_fact N n p ok) (one_each N n p ok)))
+      (sym (repair_hot (code n p) picks (code_assigned N n p ok) (one_each N n p ok)))
 
 -- no meter is repaired exactly where each has exactly one bit set
 pub none_repaired : (N n : ℕ) (x : List ℕ) → repaired N n x ≡ 0 → Hot N n (bit_at n x)

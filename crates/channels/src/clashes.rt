@@ -15,7 +15,7 @@ impl Channels<'_> {
         ensures bound { result ≤ 268431360 }
     {
         let mut sum = 0;
-        // A for and no chain: the callee asks something of its arguments, and a closure would have to ask it again.
+        // A for and no chain, as in `repaired_count`: what the callee asks is at hand of one link at a time.
         for link in self.survey.links {
             sum += (link.weight as u64) * onehot::shared(bits, link.u, link.v, self.n);
         }

@@ -1,4 +1,6 @@
 // Channels for the meters of a survey: what their table is made for.
+// `allows`, `constant_of`, `bits`, `constant` and `encode` read like those of groups: one or two calls each; a trait for
+// them would be longer, since each kind has its own limits and plan test.
 ghost use Rattle.std.specs.Prelude.{◌≤◌, ◌^◌};
 
 use crate::loads;
@@ -20,13 +22,15 @@ pub struct Channels<'a> {
 }
 
 impl Channels<'_> {
-    ghost use Rattle.std.specs.Prelude.{◌≡◌};
-    ghost use Rattle.channels.specs.Formula.{within_limits, penalty};
+    ghost use Rattle.std.specs.Prelude.{ℕ, ◌≡◌, List};
+    ghost use Rattle.links.specs.declared.Link.{Link};
+    ghost use Rattle.qubo.specs.Table.{constant_of};
+    ghost use Rattle.channels.specs.Formula.{within_limits, penalty, formula};
 
-    /// The least n,
+    /// The least n.
     pub const MIN: u64 = 1;
 
-    /// and the greatest.
+    /// The greatest n.
     pub const MAX: u64 = 16;
 
     /// Whether n is within the limits.
@@ -34,7 +38,7 @@ impl Channels<'_> {
     pub fn allows(n: u64) -> bool
         ensures { result ≡ within_limits n }
     {
-        Channels::MIN <= n && n <= Channels::MAX
+        (Channels::MIN..=Channels::MAX).contains(&n)
     }
 
     /// A: 1 plus the greatest sum of link weights at one meter.
@@ -43,6 +47,14 @@ impl Channels<'_> {
     {
         1 + loads::greatest_load(&loads::loads_of(survey), survey.meters)
     }
+
+    /// The constant, whatever n and the links are: A for each meter.
+    pub fn constant_of(meters: usize, penalty: u64) -> i64
+        requires { (meters ≤ 48) × (penalty ≤ 2 ^ 32) }
+        ensures { (n : ℕ) (ls : List Link) → result ≡ constant_of (formula penalty meters n ls) }
+    {
+        (penalty * (meters as u64)) as i64
+    }
 }
 
 impl Problem for Channels<'_> {
@@ -50,14 +62,12 @@ impl Problem for Channels<'_> {
 
     ghost instance = { λ c. instance c.penalty c.survey.meters c.n c.survey.links.now };
 
-    // As for groups: one-line bodies; a trait for them would be longer.
     fn bits(&self) -> usize {
-        self.survey.meters * self.n
+        onehot::bit_count(self.survey.meters, self.n)
     }
 
-    /// A for each meter, whatever n and the links are.
     fn constant(&self) -> i64 {
-        (self.penalty * (self.survey.meters as u64)) as i64
+        Channels::constant_of(self.survey.meters, self.penalty)
     }
 
     fn row_into(&self, i: usize, row: &mut [i64]) {

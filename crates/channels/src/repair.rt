@@ -31,7 +31,8 @@ impl Channels<'_> {
         ensures { result ≡ repaired self.now.survey.meters self.now.n bits.now }
     {
         let mut count = 0;
-        // A for and no chain: the callee asks something of its arguments, and a closure would have to ask it again.
+        // A `filter` with `count` was tried: the closure proves, and that each part is bits, which the loop has of the part
+        // at hand, is to be shown of all parts at once.
         for part in bits.chunks_exact(self.n) {
             if onehot::set_count(part) != 1 {
                 count += 1;

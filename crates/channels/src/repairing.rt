@@ -53,19 +53,15 @@ impl Repairing<'_, '_> {
     fn quietest_at(&self, m: usize) -> usize
         ensures { result ≡ quietest self.now.channels.n self.now.channels.survey.links.now self.now.bits.now self.now.plan.now m }
     {
-        // A local of this function: as a result by value the 2 KB were copied for each silent meter, and decoding took 6.3 µs where it takes 4.9.
+        // A local of this function: as a result by value the 2 KB were copied for each silent meter, and decoding took a quarter longer.
         let mut sums = [0; 256];
-        let (below_m, from_m) = self.channels.survey.split_at_meter(m);
+        let (below_m, from_m) = links::split_at_meter(self.channels.survey.links, m);
         for link in below_m {
             if link.v as usize == m {
                 self.add_borne(&mut sums, link.u as usize, link.weight as u64);
             }
         }
-        // No `take_while`, as in `add_clashes`.
-        for link in from_m {
-            if link.u as usize != m {
-                break;
-            }
+        for link in from_m.iter().take_while(|link| link.u as usize == m) {
             self.add_borne(&mut sums, link.v as usize, link.weight as u64);
         }
         least_sum(&sums, self.channels.n)

@@ -13,12 +13,8 @@ impl Channels<'_> {
         ensures { row.new ≡ add_terms (clash_terms self.now.n self.now.survey.links.now) i row.old }
     {
         let m = i / self.n + 1;
-        let (_, from_m) = self.survey.split_at_meter(m);
-        // `take_while` was tried, and the proof did not close: what the loop keeps is then said by the iterator's state, and no longer by a place among the links.
-        for link in from_m {
-            if link.u as usize != m {
-                break;
-            }
+        let (_, from_m) = links::split_at_meter(self.survey.links, m);
+        for link in from_m.iter().take_while(|link| link.u as usize == m) {
             let up = (link.v as usize) - m;
             qubo::add_pair(row, i, i, i + up * self.n, link.weight as i64);
         }

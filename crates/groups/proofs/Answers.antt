@@ -58,4 +58,4 @@ module _ (N m : ℕ) (ls : List Link) (m1 : 1 ≤ m) (x : List ℕ) (a : Assignm
   none_read n q A = none_decoded (instance A N m ls) x (codes_exactly (is_plan N m) (code_of m) (candidate N m) (candidate_plan N m) x) r zero_coded n q
 
   pub plan_read : r ≡ 0 → (q p : List ℕ) (w : ℕ) → p ≡ candidate N m x → w ≡ cut_weight ls p → (A : ℕ) → (Some (record { weight = w; repaired = 0 }) ≡ answer_of (instance A N m ls) x) × (p ≡ plan_after (instance A N m ls) x q)
-  plan_read z q p w e c A = plan_decoded (instance A N m ls) x (codes_exactly (is_plan N m) (code_of m) (candidate N m) (candidate_plan N m) x) r zero_coded z refl q p w e c
+  plan_read z q p w e c A = plan_decoded (instance A N m ls) x (codes_exactly (is_plan N m) (code_of m) (candidate N m) (candidate_plan N m) x) r zero_coded z q p w e c

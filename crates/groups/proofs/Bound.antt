@@ -41,9 +41,9 @@ cuts_small N m ls s h = le_trans (links_norm (link_cuts m) N (m * 262140) one ls
         (λ g p q. omega (arith, o.weight_high, unequal_norm (pos l.weight) (bit_number m l.u g) (bit_number m l.v g)))
 
 -- of the whole
-pub formula_norm_fact : (A N m : ℕ) (ls : List Link) → IsSurvey N ls → m ≤ 16 → A ≤ 2 ^ 32 → formula_norm (formula A N m ls) < 2 ^ 54
+pub formula_small : (A N m : ℕ) (ls : List Link) → IsSurvey N ls → m ≤ 16 → A ≤ 2 ^ 32 → formula_norm (formula A N m ls) < 2 ^ 54
 unfolding formula
-formula_norm_fact A N m ls s h a =
+formula_small A N m ls s h a =
     omega (
       arith,
       norm_append (one_hots A N m ++ size_terms A N m) (cut_terms m ls),

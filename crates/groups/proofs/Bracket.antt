@@ -11,7 +11,7 @@ use Rattle.lists.proofs.Sums.{sum_to_eq, sum_to_swap, sum_to_same, sum_to_const}
 use Rattle.qubo.specs.Formula.{Assignment}
 use Rattle.qubo.specs.Best.{CodesPlan}
 use Rattle.onehot.specs.Choices.{bit_at, are_choices, code, candidate}
-use Rattle.onehot.proofs.Codes.{Choices, choices_are, are_choices_fact, bit_code, code_bits_fact, one_each, Hot, misses_hot}
+use Rattle.onehot.proofs.Codes.{Choices, choices_are, choices_test, bit_code, code_assigned, one_each, Hot, misses_hot}
 use Rattle.onehot.proofs.Candidates.{candidate_choices, candidate_code, candidate_coded}
 use Rattle.groups.specs.Formula.{bit_count, size_in, bracket}
 use Rattle.groups.specs.Plans.{members_of, is_plan, code_of}
@@ -32,14 +32,14 @@ plan_split N m p e = record {
 
 pub split_plan : (N m : ℕ) (p : List ℕ) → Split N m p → is_plan N m p ≡ true
 unfolding is_plan
-split_plan N m p s = and_both (are_choices N m p) _ (are_choices_fact N m p s.choices) ((large_level m (members_of N p)).1 s.level)
+split_plan N m p s = and_both (are_choices N m p) _ (choices_test N m p s.choices) ((large_level m (members_of N p)).1 s.level)
 
 -- ---- its code
 
 -- is an assignment
 pub code_assignment : (N m : ℕ) (p : List ℕ) → is_plan N m p ≡ true → Assignment (bit_count N m) (code_of m p)
 unfolding code_of
-code_assignment N m p e = code_bits_fact N m p (plan_split N m p e).choices
+code_assignment N m p e = code_assigned N m p (plan_split N m p e).choices
 
 -- whose candidate is that plan
 pub candidate_plan : (N m : ℕ) (p : List ℕ) → is_plan N m p ≡ true → candidate N m (code_of m p) ≡ p

@@ -81,8 +81,8 @@ module _ (N m i : ℕ) (m1 : 1 ≤ m) (l : Link) (o : LinkOf N l) where
       omega (arith, mul-le-mul_right m g)
 
   -- a term's norm is at most that of the link's terms
-  term_norm_fact : (p q : ℕ) → formula_norm (unequal (pos l.weight) p q ∷ []) ≤ formula_norm (link_cuts m l)
-  term_norm_fact p q = omega (arith, norm_part m (λ g. unequal (pos l.weight) (bit_number m l.u g) (bit_number m l.v g) ∷ []) 0 m1)
+  unequal_small : (p q : ℕ) → formula_norm (unequal (pos l.weight) p q ∷ []) ≤ formula_norm (link_cuts m l)
+  unequal_small p q = omega (arith, norm_part m (λ g. unequal (pos l.weight) (bit_number m l.u g) (bit_number m l.v g) ∷ []) 0 m1)
 
 -- ---- add_cuts, link by link
 
@@ -137,7 +137,7 @@ module _ (N m i : ℕ) (ls : List Link) (lent : WithChoices N m ls) where
         pub term_room : (p q : ℕ) → Room (2 ^ 61) (unequal (pos (link_in ls k).weight) p q ∷ []) row
         term_room p q =
             let g : Room (2 ^ 61) (cuts_at m ls k) row = walked_room _ (cuts_at m ls) _ _ _ (left_next (link_cuts m) ls nothing) (left_none (link_cuts m) ls) row₀ row k h w in
-            record { room = λ j. omega (arith, g.room j, term_norm_fact N m i lent.low (link_in ls k) (link_at N ls lent.survey.each k h) p q) }
+            record { room = λ j. omega (arith, g.room j, unequal_small N m i lent.low (link_in ls k) (link_at N ls lent.survey.each k h) p q) }
 
         -- a turn: the lower end is the meter of bit i, or the upper end, or neither
         turn : (next : List ℤ) → add_terms (cuts_at m ls k) i row ≡ next → Added m i ls row₀ next (k + 1)

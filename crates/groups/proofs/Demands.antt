@@ -20,7 +20,7 @@ use Rattle.groups.specs.Plans.{is_plan, code_of, cut_weight}
 use Rattle.groups.specs.Instance.{instance}
 use Rattle.groups.proofs.Asking.{limit_low, limit_high}
 use Rattle.groups.proofs.Worth.{worth, formula_value}
-use Rattle.groups.proofs.Bound.{formula_norm_fact}
+use Rattle.groups.proofs.Bound.{formula_small}
 use Rattle.groups.proofs.Bracket.{plan_split, code_assignment, candidate_plan, plan_bracket, bracket_exactly}
 use Rattle.groups.proofs.Twice.{cutting_twice, cut_total}
 use Rattle.groups.proofs.Dealt.{plan_exists}
@@ -34,8 +34,8 @@ module _ (N m : ℕ) (ls : List Link) (s : IsSurvey N ls) (w : within_limits m �
     -- demand 2
     pub sound : A ≤ 2 ^ 32 → Sound (instance A N m ls)
     sound small = record {
-      small = omega (arith, table_bound (formula A N m ls) (bit_count N m), formula_norm_fact A N m ls s (limit_high m w) small);
-      plan_bytes_fact = λ p e. (plan_split N m p e).choices.size;
+      small = omega (arith, table_bound (formula A N m ls) (bit_count N m), formula_small A N m ls s (limit_high m w) small);
+      plan_bytes_length = λ p e. (plan_split N m p e).choices.size;
       assigned = code_assignment N m;
       decodes_code = λ p e. (codes_exactly (is_plan N m) (code_of m) (candidate N m) (candidate_plan N m) (code_of m p)).1 (record { plan = p; ok = e; codes = refl });
       decoded_code = candidate_plan N m;

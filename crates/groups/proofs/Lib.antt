@@ -13,4 +13,3 @@ pub mod CutRows
 pub mod Counted
 pub mod SizesReady
 pub mod RowParts
-pub mod Chunks

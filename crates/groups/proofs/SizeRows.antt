@@ -41,11 +41,11 @@ column (suc k) a b c d =
     ∙ ap (λ (j : ℕ). sum_each (suc k) (λ g. a g *ℤ b g) -ℤ c *ℤ sum_each (suc k) b -ℤ d *ℤ sum_each (suc k) a +ℤ pos j *ℤ (c *ℤ d)) (add-one k)
 
 -- is m times the sum of the products, less the product of the sums
-pair_sum_fact : (m : ℕ) (a b : ℕ → ℤ) → pair_sum m a b ≡ pos m *ℤ sum_each m (λ g. a g *ℤ b g) -ℤ sum_each m a *ℤ sum_each m b
+pair_sum_value : (m : ℕ) (a b : ℕ → ℤ) → pair_sum m a b ≡ pos m *ℤ sum_each m (λ g. a g *ℤ b g) -ℤ sum_each m a *ℤ sum_each m b
 unfolding pair_sum
-pair_sum_fact zero a b = refl
-pair_sum_fact (suc k) a b =
-    ap₂ ◌+ℤ◌ (pair_sum_fact k a b) (column k a b (a (suc k)) (b (suc k)))
+pair_sum_value zero a b = refl
+pair_sum_value (suc k) a b =
+    ap₂ ◌+ℤ◌ (pair_sum_value k a b) (column k a b (a (suc k)) (b (suc k)))
     ∙ solve
     (var 5 ⊗ var 0 ⊖ var 1 ⊗ var 2 ⊕ (var 0 ⊖ var 3 ⊗ var 2 ⊖ var 4 ⊗ var 1 ⊕ var 5 ⊗ (var 3 ⊗ var 4)))
     ((var 5 ⊕ con (pos 1)) ⊗ (var 0 ⊕ var 3 ⊗ var 4) ⊖ (var 1 ⊕ var 3) ⊗ (var 2 ⊕ var 4)) tt
@@ -161,7 +161,7 @@ module _ (A N m i : ℕ) (m1 : 1 ≤ m) (inside : i < N * m) where
   -- m at the bits of i's own group, less 1 at all bits
   pairs_own : (k : ℕ) → pair_sum m (λ g. in_group N m g i) (λ g. in_group N m g (i + k)) ≡ pos m *ℤ own (i + k) -ℤ all (i + k)
   pairs_own k =
-      pair_sum_fact m (λ g. in_group N m g i) (λ g. in_group N m g (i + k))
+      pair_sum_value m (λ g. in_group N m g i) (λ g. in_group N m g (i + k))
       ∙ ap₂ (λ y z. pos m *ℤ y -ℤ z) products sums
     where
       here : in_group N m (suc (i % m)) i ≡ pos 1

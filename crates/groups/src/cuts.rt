@@ -8,19 +8,22 @@ ghost use Rattle.groups.specs.Plans.{cut_weight};
 use crate::Groups;
 use links::Survey;
 
-/// For each link and group, the weight if exactly one end is in it.
-// Bits are lent beside the struct: it is made before they are known.
-pub fn cutting(groups: &Groups, bits: &[u8]) -> u64
-    requires { Assignment (bit_count groups.now.survey.meters groups.now.m) bits.now }
-    ensures { (result ≡ cutting_of groups.now.m groups.now.survey.links.now (bit_at groups.now.m bits.now)) × (result ≤ 268431360) }
-{
-    let mut sum = 0;
-    // A for and no chain: the callee asks something of its arguments, and a closure would have to ask it again.
-    for link in groups.survey.links {
-        let apart = onehot::unshared(bits, link.u, link.v, groups.m);
-        sum += (link.weight as u64) * apart;
+impl Groups<'_> {
+    /// For each link and group, the weight if exactly one end is in it.
+    // Bits are lent beside the struct: it is made before they are known.
+    pub(crate) fn cutting(&self, bits: &[u8]) -> u64
+        requires { Assignment (bit_count self.now.survey.meters self.now.m) bits.now }
+        ensures { (result ≡ cutting_of self.now.m self.now.survey.links.now (bit_at self.now.m bits.now)) × (result ≤ 268431360) }
+    {
+        let mut sum = 0;
+        // A for and no chain: what the callee asks is at hand of one link at a time, and for a chain it is to be shown of
+        // all of them at once.
+        for link in self.survey.links {
+            let apart = onehot::unshared(bits, link.u, link.v, self.m);
+            sum += (link.weight as u64) * apart;
+        }
+        sum
     }
-    sum
 }
 
 /// The cut weight of a plan, each link once: all weights but those of links with both ends in one group.
@@ -28,5 +31,5 @@ pub fn cut_weight(plan: &[u8], survey: &Survey) -> u64
     requires { length plan.now ≡ survey.now.meters }
     ensures { result ≡ cut_weight survey.now.links.now plan.now }
 {
-    survey.total_weight() - onehot::alike_weight(plan, survey)
+    links::total_weight(survey.links) - onehot::alike_weight(plan, survey)
 }

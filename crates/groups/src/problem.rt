@@ -1,8 +1,9 @@
 // Equal groups over a survey, as a problem that a table is made for.
+// `allows`, `constant_of`, `bits`, `constant` and `encode` read like those of channels, where the reason stands.
 ghost use Rattle.std.specs.Prelude.{◌≤◌, ◌^◌};
 
-use crate::{cuts, rows, sizes};
-use links::Survey;
+use crate::{cuts, sizes};
+use links::{Link, Survey};
 use qubo::{Decoded, Problem};
 
 /// The meters of a survey in m equally large groups, and the penalty A.
@@ -20,14 +21,16 @@ pub struct Groups<'a> {
 }
 
 impl Groups<'_> {
-    ghost use Rattle.std.specs.Prelude.{◌≡◌};
-    ghost use Rattle.groups.specs.Formula.{within_limits, penalty};
+    ghost use Rattle.std.specs.Prelude.{ℕ, ◌≡◌, List, length};
+    ghost use Rattle.links.specs.declared.Link.{Link};
+    ghost use Rattle.qubo.specs.Table.{constant_of};
+    ghost use Rattle.groups.specs.Formula.{within_limits, penalty, formula};
     ghost use Rattle.groups.specs.Plans.{is_plan};
 
-    /// The least m,
+    /// The least m.
     pub const MIN: u64 = 2;
 
-    /// and the greatest.
+    /// The greatest m.
     pub const MAX: u64 = 16;
 
     /// Whether m is within the limits.
@@ -35,23 +38,32 @@ impl Groups<'_> {
     pub fn allows(m: u64) -> bool
         ensures { result ≡ within_limits m }
     {
-        Groups::MIN <= m && m <= Groups::MAX
+        (Groups::MIN..=Groups::MAX).contains(&m)
     }
 
-    /// A: 1 plus twice the sum of all weights.
+    /// A: 1 plus twice the sum of all weights, whatever the ends of the links are.
     #[tactic(auto, unfolding(crate::specs::Formula::penalty))]
-    pub fn own_penalty(survey: &Survey) -> u64
-        ensures { result ≡ penalty survey.now.links.now }
+    pub fn own_penalty(links: &[Link]) -> u64
+        requires { length links.now ≤ 256 }
+        ensures { result ≡ penalty links.now }
     {
-        1 + 2 * survey.total_weight()
+        1 + 2 * links::total_weight(links)
+    }
+
+    /// The constant, whatever m and the links are: A for each meter.
+    pub fn constant_of(meters: usize, penalty: u64) -> i64
+        requires { (meters ≤ 48) × (penalty ≤ 2 ^ 32) }
+        ensures { (m : ℕ) (ls : List Link) → result ≡ constant_of (formula penalty meters m ls) }
+    {
+        (penalty * (meters as u64)) as i64
     }
 
     /// Whether the bytes are a plan: 1..m each, and all groups equally large.
-    fn is_plan(&self, plan: &[u8]) -> bool
-        ensures { result ≡ is_plan self.now.survey.meters self.now.m plan.now }
+    pub fn is_plan(plan: &[u8], meters: usize, m: usize) -> bool
+        requires { (meters ≤ 48) × (m ≤ 16) }
+        ensures { result ≡ is_plan meters m plan.now }
     {
-        onehot::are_choices(plan, self.survey.meters, self.m)
-            && sizes::members_spread(plan, self.m) == 0
+        onehot::are_choices(plan, meters, m) && sizes::members_spread(plan, m) == 0
     }
 }
 
@@ -60,32 +72,30 @@ impl Problem for Groups<'_> {
 
     ghost instance = { λ c. instance c.penalty c.survey.meters c.m c.survey.links.now };
 
-    // As for channels: one-line bodies; a trait for them would be longer.
     fn bits(&self) -> usize {
-        self.survey.meters * self.m
+        onehot::bit_count(self.survey.meters, self.m)
     }
 
-    /// A for each meter.
     fn constant(&self) -> i64 {
-        (self.penalty * (self.survey.meters as u64)) as i64
+        Groups::constant_of(self.survey.meters, self.penalty)
     }
 
     fn row_into(&self, i: usize, row: &mut [i64]) {
         qubo::clear(row);
         onehot::add_one_hots(row, i, self.m, self.penalty);
-        rows::add_sizes(self, row, i);
-        rows::add_cuts(self, row, i);
+        self.add_sizes(row, i);
+        self.add_cuts(row, i);
     }
 
     /// The energy by the formula itself.
     fn energy(&self, bits: &[u8]) -> i64 {
-        let broken = sizes::bracket_of(self, bits);
-        let cutting = cuts::cutting(self, bits);
+        let broken = self.bracket_of(bits);
+        let cutting = self.cutting(bits);
         (self.penalty * broken + cutting) as i64
     }
 
     fn encode(&self, plan: &[u8], bits: &mut [u8]) -> bool {
-        if !self.is_plan(plan) {
+        if !Groups::is_plan(plan, self.survey.meters, self.m) {
             return false;
         }
         onehot::encode(plan, self.survey.meters, self.m, bits);
@@ -94,7 +104,7 @@ impl Problem for Groups<'_> {
 
     /// Bits code a plan exactly where the bracket is 0, and it is then read off.
     fn decode(&self, bits: &[u8], plan: &mut [u8]) -> Option<Decoded> {
-        if sizes::bracket_of(self, bits) != 0 {
+        if self.bracket_of(bits) != 0 {
             return None;
         }
         onehot::read_off(bits, self.survey.meters, self.m, plan);

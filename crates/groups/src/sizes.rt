@@ -1,4 +1,5 @@
-// The sizes of the groups, in an assignment and in a plan, and what stands in the bracket. The size of group g is in place g of 256, since a group's number in a plan is a byte.
+// The sizes of the groups, in an assignment and in a plan, and what stands in the bracket. The size of group g is in
+// place g of 256, since a group's number in a plan is a byte.
 ghost use Rattle.std.specs.Prelude.{ℕ, pred, ◌+◌, ◌*◌, ◌≤◌, ◌<◌, ◌≡◌, length, get_or};
 ghost use Rattle.lists.specs.Sums.{sum_to, gap};
 ghost use Rattle.qubo.specs.Formula.{Assignment};
@@ -28,34 +29,38 @@ fn spread_of(sizes: &[u64], m: usize) -> u64
     ensures { (result ≡ spread m (λ g. get_or sizes.now g 0)) × (result ≤ 552960) }
 {
     let mut sum = 0;
+    // By number: h is a group, and all before it are compared with it.
     for h in 1..=m {
         sum += spread_to(sizes, h);
     }
     sum
 }
 
-/// The sizes of the groups in an assignment, meter by meter.
-// Bits are lent beside the struct: it is made before they are known.
-fn gather_sizes(groups: &Groups, bits: &[u8]) -> [u64; 256]
-    requires { Assignment (bit_count groups.now.survey.meters groups.now.m) bits.now }
-    ensures { (length result ≡ 256) × ((g : ℕ) → 1 ≤ g → g ≤ groups.now.m → get_or result g 0 ≡ size_in groups.now.survey.meters (bit_at groups.now.m bits.now) g) }
-{
-    let mut sizes = [0; 256];
-    for part in bits.chunks_exact(groups.m) {
-        onehot::add_part(&mut sizes, part, 1);
+impl Groups<'_> {
+    /// The sizes of the groups in an assignment, meter by meter.
+    // Bits are lent beside the struct: it is made before they are known.
+    fn gather_sizes(&self, bits: &[u8]) -> [u64; 256]
+        requires { Assignment (bit_count self.now.survey.meters self.now.m) bits.now }
+        ensures { (length result ≡ 256) × ((g : ℕ) → 1 ≤ g → g ≤ self.now.m → get_or result g 0 ≡ size_in self.now.survey.meters (bit_at self.now.m bits.now) g) }
+    {
+        let mut sizes = [0; 256];
+        for part in bits.chunks_exact(self.m) {
+            onehot::add_part(&mut sizes, part, 1);
+        }
+        sizes
     }
-    sizes
-}
 
-/// What stands in the bracket: the sum over meters of (1 - bits set)² plus the sum over pairs of groups of (size difference)².
-// Bits are lent beside the struct: it is made before they are known.
-pub fn bracket_of(groups: &Groups, bits: &[u8]) -> u64
-    requires { Assignment (bit_count groups.now.survey.meters groups.now.m) bits.now }
-    ensures { (result ≡ bracket groups.now.survey.meters groups.now.m (bit_at groups.now.m bits.now)) × (result ≤ 658992) }
-{
-    let sizes = gather_sizes(groups, bits);
-    let missed = onehot::misses_of(bits, groups.survey.meters, groups.m);
-    missed + spread_of(&sizes, groups.m)
+    /// What stands in the bracket: the sum over meters of (1 - bits set)² plus the sum over pairs of groups of (size
+    /// difference)².
+    // Bits are lent beside the struct: it is made before they are known.
+    pub(crate) fn bracket_of(&self, bits: &[u8]) -> u64
+        requires { Assignment (bit_count self.now.survey.meters self.now.m) bits.now }
+        ensures { (result ≡ bracket self.now.survey.meters self.now.m (bit_at self.now.m bits.now)) × (result ≤ 658992) }
+    {
+        let sizes = self.gather_sizes(bits);
+        let missed = onehot::misses_of(bits, self.survey.meters, self.m);
+        missed + spread_of(&sizes, self.m)
+    }
 }
 
 /// The sum over pairs of groups of (size difference)² in a plan: 0 exactly where all groups are equally large.

@@ -29,23 +29,23 @@ link_of N l e = record {
 }
 
 -- the facts of a link give the test
-pub link_ok_fact : (N : ℕ) (l : Link) → LinkOf N l → link_ok N l ≡ true
+pub link_tested : (N : ℕ) (l : Link) → LinkOf N l → link_ok N l ≡ true
 unfolding link_ok every
-link_ok_fact N l h = rw (le-leb 1 l.u h.u_low, lt-ltb l.u l.v h.ordered, le-leb l.v N h.v_high, le-leb 1 l.weight h.weight_low, le-leb l.weight 65535 h.weight_high)
+link_tested N l h = rw (le-leb 1 l.u h.u_low, lt-ltb l.u l.v h.ordered, le-leb l.v N h.v_high, le-leb 1 l.weight h.weight_low, le-leb l.weight 65535 h.weight_high)
 
 -- the test of all links gives the facts of each
-pub link_in_fact : (N : ℕ) (ls : List Link) → all (link_ok N) ls ≡ true → (l : Link) → Memᴰ l ls → LinkOf N l
-link_in_fact N ls o l i = link_of N l (all_member (link_ok N) ls o l i)
+pub member_link : (N : ℕ) (ls : List Link) → all (link_ok N) ls ≡ true → (l : Link) → Memᴰ l ls → LinkOf N l
+member_link N ls o l i = link_of N l (all_member (link_ok N) ls o l i)
 
 -- a link that has the ends a and b ends at a
-pub ends_u_fact : (a b : ℕ) (l : Link) → has_ends a b l ≡ true → l.u ≡ a
+pub ends_at_u : (a b : ℕ) (l : Link) → has_ends a b l ≡ true → l.u ≡ a
 unfolding has_ends
-ends_u_fact a b l e = eqb-true l.u a (and_left (eqb l.u a) _ e)
+ends_at_u a b l e = eqb-true l.u a (and_left (eqb l.u a) _ e)
 
 -- a link that has the ends a and b ends at b
-pub ends_v_fact : (a b : ℕ) (l : Link) → has_ends a b l ≡ true → l.v ≡ b
+pub ends_at_v : (a b : ℕ) (l : Link) → has_ends a b l ≡ true → l.v ≡ b
 unfolding has_ends
-ends_v_fact a b l e = eqb-true l.v b (and_right (eqb l.u a) _ e)
+ends_at_v a b l e = eqb-true l.v b (and_right (eqb l.u a) _ e)
 
 -- the ends of a link give the test
 pub ends_yes : (a b : ℕ) (l : Link) → l.u ≡ a → l.v ≡ b → has_ends a b l ≡ true
@@ -61,7 +61,7 @@ pub ends_no : (a b : ℕ) (l : Link) → (l.u ≡ a → l.v ≡ b → ⊥) → h
 ends_no a b l n = go (has_ends a b l) refl
   where
     go : (t : Bool) → has_ends a b l ≡ t → t ≡ false
-    go true q = absurd (n (ends_u_fact a b l q) (ends_v_fact a b l q))
+    go true q = absurd (n (ends_at_u a b l q) (ends_at_v a b l q))
     go false q = refl
 
 -- ---- each link, and how many
@@ -134,10 +134,10 @@ rises_sooner a b c d [] h e = refl
 rises_sooner a b c d (x ∷ xs) h e = rises_cons a b x xs (before_trans h (rises_head c d x xs e)) (rises_tail c d x xs e)
 
 -- links whose ends are not 0 rise from (0, 0) on if they rise
-pub ascending_from_fact : (N : ℕ) (ls : List Link) → all (link_ok N) ls ≡ true → ascending_from 0 0 ls ≡ ascending ls
+pub ascending_from_zero : (N : ℕ) (ls : List Link) → all (link_ok N) ls ≡ true → ascending_from 0 0 ls ≡ ascending ls
 unfolding ascending_from ascending
-ascending_from_fact N [] e = refl
-ascending_from_fact N (x ∷ xs) e =
+ascending_from_zero N [] e = refl
+ascending_from_zero N (x ∷ xs) e =
     let h = link_of N x (all_head (link_ok N) x xs e) in
     rw (before_yes 0 0 x.u x.v (less h.u_low))
 
@@ -199,13 +199,13 @@ rises_present a b c d [] e h = absurd (false≢true h)
 rises_present a b c d (x ∷ xs) e h = go (has_ends c d x) refl h (rises_present x.u x.v c d xs (rises_tail a b x xs e))
   where
     go : (t : Bool) → has_ends c d x ≡ t → (t || present c d xs) ≡ true → (present c d xs ≡ true → Before x.u x.v c d) → Before a b c d
-    go true q r f = subst₂ (λ (y z : ℕ). Before a b y z) (ends_u_fact c d x q) (ends_v_fact c d x q) (rises_head a b x xs e)
+    go true q r f = subst₂ (λ (y z : ℕ). Before a b y z) (ends_at_u c d x q) (ends_at_v c d x q) (rises_head a b x xs e)
     go false q r f = before_trans (rises_head a b x xs e) (f r)
 
 -- the ends of a rising list's head are not there once more
 head_only : (a b : ℕ) (x : Link) (xs : List Link) → ascending (x ∷ xs) ≡ true → has_ends a b x ≡ true → present a b xs ≡ false
 unfolding ascending
-head_only a b x xs e q = subst₂ (λ (y z : ℕ). present y z xs ≡ false) (ends_u_fact a b x q) (ends_v_fact a b x q) (rises_none x.u x.v xs e)
+head_only a b x xs e q = subst₂ (λ (y z : ℕ). present y z xs ≡ false) (ends_at_u a b x q) (ends_at_v a b x q) (rises_none x.u x.v xs e)
 
 ascending_tail : (x : Link) (xs : List Link) → ascending (x ∷ xs) ≡ true → ascending xs ≡ true
 unfolding ascending
@@ -251,10 +251,10 @@ times_falling N (l ∷ ls) o a b h =
 -- two pairs of ends of one link are the same
 ends_same : (a b c d : ℕ) (x : Link) → has_ends c d x ≡ true → has_ends a b x ≡ (eqb a c && eqb b d)
 ends_same a b c d x q =
-    let i = ends_u_fact c d x q in
-    let j = ends_v_fact c d x q in
+    let i = ends_at_u c d x q in
+    let j = ends_at_v c d x q in
     same_test (has_ends a b x) (eqb a c && eqb b d)
-    (λ e. and_both (eqb a c) (eqb b d) (eq-eqb a c (sym (ends_u_fact a b x e) ∙ i)) (eq-eqb b d (sym (ends_v_fact a b x e) ∙ j)))
+    (λ e. and_both (eqb a c) (eqb b d) (eq-eqb a c (sym (ends_at_u a b x e) ∙ i)) (eq-eqb b d (sym (ends_at_v a b x e) ∙ j)))
     (λ e. ends_yes a b x (i ∙ sym (eqb-true a c (and_left (eqb a c) _ e))) (j ∙ sym (eqb-true b d (and_right (eqb a c) _ e))))
 
 -- a link that has one pair of ends and not the other tells them apart
@@ -262,12 +262,12 @@ ends_apart : (a b c d : ℕ) (x : Link) → has_ends c d x ≡ false → has_end
 ends_apart a b c d x n q = go (eqb a c && eqb b d) refl
   where
     go : (t : Bool) → (eqb a c && eqb b d) ≡ t → t ≡ false
-    go true e = absurd (ends_not c d x n (ends_u_fact a b x q ∙ eqb-true a c (and_left (eqb a c) _ e)) (ends_v_fact a b x q ∙ eqb-true b d (and_right (eqb a c) _ e)))
+    go true e = absurd (ends_not c d x n (ends_at_u a b x q ∙ eqb-true a c (and_left (eqb a c) _ e)) (ends_at_v a b x q ∙ eqb-true b d (and_right (eqb a c) _ e)))
     go false e = refl
 
 -- the ends of a link that is not there are its own alone
 ends_alone : (l x : Link) (a b : ℕ) → has_ends l.u l.v x ≡ false → has_ends a b x ≡ true → has_ends a b l ≡ false
-ends_alone l x a b n q = ends_no a b l (λ i j. ends_not l.u l.v x n (ends_u_fact a b x q ∙ sym i) (ends_v_fact a b x q ∙ sym j))
+ends_alone l x a b n q = ends_no a b l (λ i j. ends_not l.u l.v x n (ends_at_u a b x q ∙ sym i) (ends_at_v a b x q ∙ sym j))
 
 -- a link put in has its weight, and every other link the weight it had
 pub insert_weight : (l : Link) (ls : List Link) (a b : ℕ) → present l.u l.v ls ≡ false → weight_of a b (insert l ls) ≡ cond (has_ends a b l) l.weight (weight_of a b ls)
@@ -341,7 +341,7 @@ insert_delete l [] e h w = absurd (false≢true h)
 insert_delete l (x ∷ xs) e h w = go (has_ends l.u l.v x) refl h w (insert_delete l xs (ascending_tail x xs e))
   where
     go : (t : Bool) → has_ends l.u l.v x ≡ t → (t || present l.u l.v xs) ≡ true → cond t x.weight (weight_of l.u l.v xs) ≡ l.weight → (present l.u l.v xs ≡ true → weight_of l.u l.v xs ≡ l.weight → insert l (delete l.u l.v xs) ≡ xs) → insert l (cond t xs (x ∷ delete l.u l.v xs)) ≡ x ∷ xs
-    go true q r k f = subst (λ (y : Link). insert y xs ≡ x ∷ xs) (link_equal x l (ends_u_fact l.u l.v x q) (ends_v_fact l.u l.v x q) k) (insert_front x xs e)
+    go true q r k f = subst (λ (y : Link). insert y xs ≡ x ∷ xs) (link_equal x l (ends_at_u l.u l.v x q) (ends_at_v l.u l.v x q) k) (insert_front x xs e)
     go false q r k f = rw (before_yes x.u x.v l.u l.v (rises_present x.u x.v l.u l.v xs e r)) (ap (λ (ys : List Link). x ∷ ys) (f r k))
 
 -- remove after add of a link that was not there gives the same links

@@ -7,11 +7,12 @@ use lib.Dec.{leb, eqb}
 use borrow.Author.Tests.{lt-ltb, le-ltb, le-leb, ne_eqb, eqb-true, leb-true}
 use native.Mathlib.Omega.{arith}
 use Rattle.lists.specs.Tests.{all, from}
-use Rattle.links.specs.Links.{link_ok, has_ends, is_at, times_of, degree, low, high}
+use Rattle.links.specs.Links.{edge_ok, has_ends, is_at, times_of, degree, low, high}
 use Rattle.links.specs.declared.Link.{Link}
-use Rattle.links.specs.Survey.{LinkOf, IsSurvey}
+use Rattle.links.specs.Survey.{EdgeOf, IsGraph}
 use Rattle.lists.proofs.Tests.{Equal, equal, other, equal?, and_left, and_right, all_head, all_tail}
-use Rattle.links.proofs.Altered.{link_of, ends_yes, ends_no, ascending_once}
+use Rattle.links.proofs.Altered.{ends_yes, ends_no, ascending_once}
+use Rattle.links.proofs.Graph.{edge_of}
 
 module _ (m : ℕ) where
   -- the link joins m and x
@@ -51,7 +52,7 @@ module _ (m : ℕ) where
   unfolding joins low high
   joins_v x l e f h = rw (le-ltb m x (omega arith)) (ends_yes x m l e f)
 
-  mates_at : (N : ℕ) (l : Link) → LinkOf N l → cond (is_at m l) 1 0 ≤ mates (from 1 N) l
+  mates_at : (N : ℕ) (l : Link) → EdgeOf N l → cond (is_at m l) 1 0 ≤ mates (from 1 N) l
   unfolding is_at
   mates_at N l h = go (eqb l.u m) (eqb l.v m) (eqb-true l.u m) (eqb-true l.v m)
     where
@@ -60,19 +61,19 @@ module _ (m : ℕ) where
       go false true e f = let q = f refl in mates_one N 1 l.u l (omega arith) (omega arith) (joins_v l.u l refl q (omega arith))
       go false false e f = omega arith
 
-  degree_total : (N : ℕ) (ls : List Link) → all (link_ok N) ls ≡ true → degree m ls ≤ total (from 1 N) ls
+  degree_total : (N : ℕ) (ls : List Link) → all (edge_ok N) ls ≡ true → degree m ls ≤ total (from 1 N) ls
   unfolding degree
   degree_total N [] e = omega arith
   degree_total N (l ∷ ls) e =
-      omega (arith, mates_at N l (link_of N l (all_head (link_ok N) l ls e)), degree_total N ls (all_tail (link_ok N) l ls e), total_cons (from 1 N) l ls)
+      omega (arith, mates_at N l (edge_of N l (all_head (edge_ok N) l ls e)), degree_total N ls (all_tail (edge_ok N) l ls e), total_cons (from 1 N) l ls)
 
   -- no link joins m and m
-  times_self : (N : ℕ) (ls : List Link) → all (link_ok N) ls ≡ true → times_of (low m m) (high m m) ls ≡ 0
+  times_self : (N : ℕ) (ls : List Link) → all (edge_ok N) ls ≡ true → times_of (low m m) (high m m) ls ≡ 0
   unfolding low high times_of
   times_self N [] e = refl
   times_self N (l ∷ ls) e =
-      let h = link_of N l (all_head (link_ok N) l ls e) in
-      rw (ends_no (low m m) (high m m) l (λ i j. omega arith), times_self N ls (all_tail (link_ok N) l ls e))
+      let h = edge_of N l (all_head (edge_ok N) l ls e) in
+      rw (ends_no (low m m) (high m m) l (λ i j. omega arith), times_self N ls (all_tail (edge_ok N) l ls e))
 
   -- each meter is joined with m at most once, and m itself is not
   total_le : (ls : List Link) → ((a b : ℕ) → times_of a b ls ≤ 1) → (n a : ℕ) → total (from a n) ls ≤ n
@@ -90,19 +91,19 @@ module _ (m : ℕ) where
       go (other q) f = omega (arith, h (low m a) (high m a), f (omega arith))
 
 -- a meter has fewer links than there are meters
-pub degree_bound : (N : ℕ) (ls : List Link) (m : ℕ) → IsSurvey N ls → 1 ≤ m → m ≤ N → suc (degree m ls) ≤ N
+pub degree_bound : (N : ℕ) (ls : List Link) (m : ℕ) → IsGraph N ls → 1 ≤ m → m ≤ N → suc (degree m ls) ≤ N
 degree_bound N ls m s l h = omega (arith, degree_total m N ls s.each, total_less m ls (λ a b. ascending_once ls a b s.rises) (times_self m N ls s.each) N 1 l (omega arith))
 
 -- what is no meter has no link
-pub degree_out : (N : ℕ) (ls : List Link) (m : ℕ) → all (link_ok N) ls ≡ true → (1 ≤ m → m ≤ N → ⊥) → degree m ls ≡ 0
+pub degree_out : (N : ℕ) (ls : List Link) (m : ℕ) → all (edge_ok N) ls ≡ true → (1 ≤ m → m ≤ N → ⊥) → degree m ls ≡ 0
 unfolding degree is_at
 degree_out N [] m e n = refl
 degree_out N (l ∷ ls) m e n =
-    let h = link_of N l (all_head (link_ok N) l ls e) in
-    rw (ne_eqb l.u m (λ q. n (omega arith) (omega arith)), ne_eqb l.v m (λ q. n (omega arith) (omega arith)), degree_out N ls m (all_tail (link_ok N) l ls e) n)
+    let h = edge_of N l (all_head (edge_ok N) l ls e) in
+    rw (ne_eqb l.u m (λ q. n (omega arith) (omega arith)), ne_eqb l.v m (λ q. n (omega arith) (omega arith)), degree_out N ls m (all_tail (edge_ok N) l ls e) n)
 
 -- a meter has at most 47 links
-pub degree_few : (N : ℕ) (ls : List Link) (m : ℕ) → IsSurvey N ls → degree m ls ≤ 47
+pub degree_few : (N : ℕ) (ls : List Link) (m : ℕ) → IsGraph N ls → degree m ls ≤ 47
 degree_few N ls m s = go (leb 1 m && leb m N) refl
   where
     go : (t : Bool) → (leb 1 m && leb m N) ≡ t → degree m ls ≤ 47

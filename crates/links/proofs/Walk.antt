@@ -8,7 +8,7 @@ use Rattle.links.specs.Links.{link_ok, link_in}
 use Rattle.links.specs.Survey.{LinkOf, IsSurvey}
 use Rattle.links.specs.declared.Link.{Link}
 use Rattle.links.specs.declared.survey.Survey.{Survey}
-use Rattle.links.proofs.Altered.{link_of, link_in_fact}
+use Rattle.links.proofs.Altered.{link_of, member_link}
 
 -- what the type of surveys says, as a record
 pub is_survey : (s : Survey) → IsSurvey s.meters s.links.now
@@ -24,8 +24,8 @@ link_at N (l ∷ ls) e (suc k) h = link_at N ls (all_tail (link_ok N) l ls e) k 
 
 -- equal for links of N meters
 pub sum_equal : (N : ℕ) (ls : List Link) → all (link_ok N) ls ≡ true → (f g : Link → ℕ) → ((l : Link) → LinkOf N l → f l ≡ g l) → sum_of ls f ≡ sum_of ls g
-sum_equal N ls o f g h = sum_of_eq ls f g (λ l i. h l (link_in_fact N ls o l i))
+sum_equal N ls o f g h = sum_of_eq ls f g (λ l i. h l (member_link N ls o l i))
 
 -- each summand is at most b
 pub sum_bounded : (N : ℕ) (ls : List Link) → all (link_ok N) ls ≡ true → (f : Link → ℕ) (b : ℕ) → ((l : Link) → LinkOf N l → f l ≤ b) → sum_of ls f ≤ length ls * b
-sum_bounded N ls o f b h = sum_of_bound ls f b (λ l i. h l (link_in_fact N ls o l i))
+sum_bounded N ls o f b h = sum_of_bound ls f b (λ l i. h l (member_link N ls o l i))

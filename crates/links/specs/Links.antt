@@ -10,6 +10,10 @@ use Rattle.links.specs.declared.Link.{Link}
 unfoldable pub link_ok : ℕ → Link → Bool
 link_ok N l = every (leb 1 l.u ∷ ltb l.u l.v ∷ leb l.v N ∷ leb 1 l.weight ∷ leb l.weight 65535 ∷ [])
 
+-- "1 ≤ u < v ≤ N", whatever its weight is
+unfoldable pub edge_ok : ℕ → Link → Bool
+edge_ok N l = every (leb 1 l.u ∷ ltb l.u l.v ∷ leb l.v N ∷ [])
+
 -- the link has the ends a and b
 unfoldable pub has_ends : ℕ → ℕ → Link → Bool
 has_ends a b l = eqb l.u a && eqb l.v b

@@ -3,3 +3,4 @@ pub mod Sums
 pub mod Members
 pub mod Stores
 pub mod Walks
+pub mod Rest

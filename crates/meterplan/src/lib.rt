@@ -1,4 +1,6 @@
-// The C interface: the public calls of `plans`, one function each, under the names of include/meterplan.h. A slice crosses as a pointer and a length; `meterplan_ask` of the header is `plans::Ask` itself, by value; a result crosses as a number, or as a struct of its number and values. A refusal of 0 says that the result is there.
+// The C interface: the public calls of `plans`, one function each, under the names of include/meterplan.h. A slice
+// crosses as a pointer and a length; `meterplan_ask` of the header is `plans::Ask` itself, by value; a result crosses as
+// a number, or as a struct of its number and values. A refusal of 0 says that the result is there.
 #![tactic(auto)]
 
 ghost use Rattle.std.specs.Prelude.{◌≡◌, ℕ, ℤ, length, pos};

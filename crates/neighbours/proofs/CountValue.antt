@@ -12,7 +12,7 @@ use borrow.Author.Tests.{eq-eqb, ne_eqb}
 use Rattle.lists.specs.Sums.{sum_to, sum_of, same, gap}
 use Rattle.lists.proofs.Sums.{sum_to_const, same_yes, same_no}
 use Rattle.links.specs.declared.Link.{Link}
-use Rattle.links.specs.Survey.{IsSurvey}
+use Rattle.links.specs.Survey.{IsGraph}
 use Rattle.links.proofs.Degree.{degree_few}
 use Rattle.qubo.specs.Formula.{entries_value, term_value, value}
 use Rattle.qubo.specs.Table.{term_constant, constant_of}
@@ -116,7 +116,7 @@ pub numbered_norm : (d : ℕ) (b : ℕ → ℕ) → 2 * entries_norm (each d (λ
 numbered_norm zero b = refl
 numbered_norm (suc d) b = omega (arith, entries_norm_append (each d (λ j. (b j, pos j))) ((b (suc d), pos (suc d)) ∷ []), numbered_norm d b)
 
-module _ (N D d : ℕ) (ls : List Link) (s : IsSurvey N ls) (D24 : D ≤ 24) (d47 : d ≤ 47) where
+module _ (N D d : ℕ) (ls : List Link) (s : IsGraph N ls) (D24 : D ≤ 24) (d47 : d ≤ 47) where
   -- D for each arc in or out of meter v
   touches_norm : (v : ℕ) → entries_norm (over (arcs ls) (touching N D v)) ≤ 2256
   touches_norm v =
@@ -142,4 +142,4 @@ module _ (N D d : ℕ) (ls : List Link) (s : IsSurvey N ls) (D24 : D ≤ 24) (d4
   unfolding degree_terms
   degrees_norm A M =
       le_trans (norm_each (A * 11451456) N (degree_term A N D M d (arcs ls)) (λ v p q. degree_norm A M v))
-      (omega (arith, mul-le-mul {n₂ = 48} {m₂ = A * 11451456} s.meters_high (le_refl (A * 11451456))))
+      (omega (arith, mul-le-mul {n₂ = 48} {m₂ = A * 11451456} s.few_meters (le_refl (A * 11451456))))

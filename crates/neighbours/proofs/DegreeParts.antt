@@ -5,9 +5,10 @@ use mathlib.Core.Bool.{Bool, true, false, ◌||◌, cond}
 use mathlib.Core.List.{List, [], ◌∷◌, ◌++◌, append_assoc}
 use native.Mathlib.Omega.{arith}
 use native.Mathlib.Numerals.{add-one}
-use native.Mathlib.Nat.{mul-one, mul-le-mul, mul-le-mul_left, mul-le-mul_right, add-mul}
+use native.Mathlib.Nat.{add-zero, add_assoc, mul-one, mul-le-mul, mul-le-mul_left, mul-le-mul_right, add-mul}
 use mir.Syntax.{w64}
-use mir.Val.{SFits}
+use mir.Facts.{to_z-of_z}
+use mir.Val.{to_z}
 use lib.Dec.{eqb}
 use lib.ListN.{length}
 use lib.IntN.{ℤ, pos, negsuc, nat_abs, ◌+ℤ◌, ◌-ℤ◌, ◌*ℤ◌, *ℤ-zero}
@@ -27,11 +28,14 @@ use Rattle.qubo.proofs.RowTerms.{product_split, product_entry, product_scale, pr
 use Rattle.qubo.proofs.Runs.{run_lacks}
 use Rattle.qubo.proofs.RowShapes.{bits_times_norm}
 use Rattle.qubo.proofs.RowWalk.{Walked, walked_first, walked_room, walked_turn, walked_end}
-use Rattle.qubo.proofs.Turns.{less_abs, fits_abs}
+use Rattle.qubo.proofs.Turns.{less_abs, fits_abs, fits_less}
 use Rattle.arcs.specs.Arcs.{Arc, arcs, arc_bit, arcs_end}
-use Rattle.arcs.proofs.ArcLists.{arc_up, arc_back, arcs_left, arcs_start, arcs_turn, arcs_end_fact}
+use Rattle.arcs.proofs.Signed.{plain}
+use Rattle.arcs.proofs.ArcLists.{arc_up, arc_back, arcs_left, arcs_start, arcs_turn, arcs_past}
 use Rattle.neighbours.specs.Formula.{touching}
 use Rattle.neighbours.specs.Inner.{numbered, link_run, link_part, Roomy}
+use Rattle.neighbours.specs.declared.counts.Neighbours.{Neighbours}
+use Rattle.neighbours.proofs.Asked.{word}
 use Rattle.neighbours.proofs.CountValue.{numbered_norm}
 
 -- ---- add_numbered: bit by bit
@@ -46,34 +50,47 @@ numbered_small q i t d start a b =
 abbrev pub Numbered : ℤ → ℕ → ℕ → ℕ → List ℤ → List ℤ → ℕ → Type 0
 Numbered q i start d row₀ row t = (t ≤ d) × (row ≡ add_terms (times q i (numbered t start) ∷ []) i row₀)
 
-module _ (q : ℤ) (i start d : ℕ) (row₀ : List ℤ) (d47 : d ≤ 47) (space : Roomy q i row₀) where
-  pub numbered_start : Numbered q i start d row₀ row₀ 0
-  numbered_start = (omega arith, sym (product_empty q (bit i) i row₀))
+module _ (start d : ℕ) {q : ℤ} {i : ℕ} {row₀ : List ℤ} (asked : (1 ≤ length row₀) × (d ≤ 47) × (start + d ≤ i + length row₀) × Roomy q i row₀) where
+  as_given : word q ≡ q
+  as_given = to_z-of_z (fits_abs q (omega (arith, asked.3.factor)))
 
-  module _ (row : List ℤ) (t : ℕ) (w : Numbered q i start d row₀ row t) where
-    pub numbered_size : length row ≡ length row₀
-    numbered_size = ap length w.1 ∙ add_length (times q i (numbered t start) ∷ []) i row₀
+  pub numbered_start : Numbered (word q) i start d row₀ row₀ 0
+  numbered_start = (omega arith, sym (product_empty (word q) (bit i) i row₀))
 
-    pub numbered_fits : t < d → SFits w64 (q *ℤ pos (t + 1))
-    numbered_fits h = fits_abs _ (omega (arith, nat_abs_*ℤ q (pos (t + 1)), mul-le-mul {n₂ = 4294967296} {m₂ = 47} space.factor (let g : t + 1 ≤ 47 = omega arith in g)))
+  -- at number t + 1
+  module _ {row : List ℤ} {t : ℕ} (walked : Numbered (word q) i start d row₀ row t) (h : t < d) where
+    so_far_is : row ≡ add_terms (times q i (numbered t start) ∷ []) i row₀
+    so_far_is = rw as_given at walked.1
 
-    pub numbered_room : t < d → Room (2 ^ 61) (pair (q *ℤ pos (t + 1)) i (start + t) ∷ []) row
-    numbered_room h = rw w.1 (record {
-      room = λ k. omega (
-        arith,
-        space.small k,
-        space.factor,
-        added_abs (times q i (numbered t start) ∷ []) i row₀ k,
-        numbered_small q i t d start d47 w.0,
-        times_norm (q *ℤ pos (t + 1)) i ((start + t, pos 1) ∷ []),
-        nat_abs_*ℤ q (pos (t + 1)),
-        mul-le-mul {n₂ = 4294967296} {m₂ = 47} space.factor (let g : t + 1 ≤ 47 = omega arith in g),
-      );
-    })
+    size : length row ≡ length row₀
+    size = ap length so_far_is ∙ add_length (times q i (numbered t start) ∷ []) i row₀
+
+    share : nat_abs (q *ℤ pos (t + 1)) ≤ 201863462912
+    share = omega (arith, nat_abs_*ℤ q (pos (t + 1)), mul-le-mul {n₂ = 4294967296} {m₂ = 47} asked.3.factor (let g : t + 1 ≤ 47 = omega (arith, asked.1) in g))
+
+    share_is : word (word q *ℤ to_z w64 (t + 1)) ≡ q *ℤ pos (t + 1)
+    share_is = rw (as_given, plain (t + 1) (omega (arith, asked.1)), to_z-of_z (fits_abs (q *ℤ pos (t + 1)) (omega (arith, share)))) refl
+
+    pub number_ready : (i < i + length row) × (start + t < i + length row) × Room (2 ^ 61) (pair (word (word q *ℤ to_z w64 (t + 1))) i (start + t) ∷ []) row
+    number_ready = (
+      omega (arith, size, asked.0),
+      omega (arith, size, asked.2),
+      rw (share_is, so_far_is) (record {
+        room = λ k. omega (
+          arith,
+          asked.3.small k,
+          asked.3.factor,
+          added_abs (times q i (numbered t start) ∷ []) i row₀ k,
+          numbered_small q i t d start asked.1 walked.0,
+          times_norm (q *ℤ pos (t + 1)) i ((start + t, pos 1) ∷ []),
+          share,
+        );
+      }),
+    )
 
     -- a turn adds it
-    pub numbered_turn : t < d → (next : List ℤ) → next ≡ add_terms (pair (q *ℤ pos (t + 1)) i (start + t) ∷ []) i row → Numbered q i start d row₀ next (t + 1)
-    numbered_turn h next e = (omega arith, e ∙ ap (add_terms (pair (q *ℤ pos (t + 1)) i (start + t) ∷ []) i) w.1 ∙ rw (add-one t) one_more)
+    pub numbered_turn : {next : List ℤ} → next ≡ add_terms (pair (word (word q *ℤ to_z w64 (t + 1))) i (start + t) ∷ []) i row → Numbered (word q) i start d row₀ next (t + 1)
+    numbered_turn e = (omega arith, e ∙ rw (share_is, so_far_is, as_given, add-one t) one_more)
       where
         one_more : add_terms (pair (q *ℤ pos (suc t)) i (start + t) ∷ []) i (add_terms (times q i (numbered t start) ∷ []) i row₀) ≡ add_terms (times q i (numbered (suc t) start) ∷ []) i row₀
         one_more =
@@ -185,7 +202,7 @@ parts N D m ls q i k (suc n) = link_part (link_in ls k) m q i (link_run N D k) +
 parts_added : (N D m : ℕ) (ls : List Link) (q : ℤ) (i n k : ℕ) → k + n ≡ length ls → (r : List ℤ)
     → add_terms (times q i (over (arcs_left ls k) (touching N D m)) ∷ []) i r ≡ add_terms (parts N D m ls (pos 0 -ℤ q) i k n) i r
 unfolding parts
-parts_added N D m ls q i zero k e r = rw (arcs_end_fact ls k (omega arith)) (product_empty q (bit i) i r ∙ sym (add_none i r))
+parts_added N D m ls q i zero k e r = rw (arcs_past ls k (omega arith)) (product_empty q (bit i) i r ∙ sym (add_none i r))
 parts_added N D m ls q i (suc n) k e r =
     let first = link_part (link_in ls k) m (pos 0 -ℤ q) i (link_run N D k) in
     let rest = over (arcs_left ls (k + 1)) (touching N D m) in
@@ -224,11 +241,32 @@ parts_left N D m i ls q k = parts N D m ls q i k (length ls - k)
 link_within : (D k n : ℕ) → k < n → 2 * k * D + 2 * D ≤ 2 * n * D
 link_within D k n h = omega (arith, mul-le-mul_right D (let l : 2 * k + 2 ≤ 2 * n = omega arith in l), add-mul (2 * k) 2 D)
 
--- the links before k are added to the row, with the factor q
-abbrev pub Touched : ℕ → ℕ → ℕ → ℕ → List Link → ℤ → List ℤ → List ℤ → ℕ → Type 0
-Touched N D m i ls q row₀ row k = Walked (2 ^ 61) (parts_left N D m i ls (pos 0 -ℤ q)) (length ls) i row₀ row k
+-- ---- add_touching: in turns
 
-module _ (N D m i : ℕ) (ls : List Link) (few : length ls ≤ 256) (deep : D ≤ 24) (q : ℤ) (row₀ : List ℤ) (space : Roomy q i row₀) where
+-- the links before k are added to the row, with the factor q
+abbrev pub Touched : Neighbours → ℕ → ℕ → ℤ → List ℤ → List ℤ → ℕ → Type 0
+Touched n m i q row₀ row k = Walked (2 ^ 61) (parts_left n.arcs.layout.meters n.arcs.layout.deepest m i n.arcs.links.now (pos 0 -ℤ q)) (length n.arcs.links.now) i row₀ row k
+
+module _ (n : Neighbours) (m : ℕ) {from i : ℕ} {q : ℤ} {row₀ : List ℤ}
+    (asked : (arcs_end n.arcs.layout.meters n.arcs.layout.deepest (length n.arcs.links.now) ≤ i + length row₀) × Roomy q i row₀ × (from ≤ length n.arcs.links.now) × (arcs_end n.arcs.layout.meters n.arcs.layout.deepest from ≤ i)) where
+  abbrev N : ℕ
+  N = n.arcs.layout.meters
+
+  abbrev D : ℕ
+  D = n.arcs.layout.deepest
+
+  abbrev ls : List Link
+  ls = n.arcs.links.now
+
+  space : Roomy q i row₀
+  space = asked.1
+
+  same : word q ≡ q
+  same = to_z-of_z (fits_abs q (omega (arith, space.factor)))
+
+  less_is : word (pos 0 -ℤ word q) ≡ pos 0 -ℤ q
+  less_is = rw (same, to_z-of_z (fits_less q (omega (arith, space.factor)))) refl
+
   abbrev part_at : ℕ → Formula
   part_at k = link_part (link_in ls k) m (pos 0 -ℤ q) i (link_run N D k)
 
@@ -251,34 +289,50 @@ module _ (N D m i : ℕ) (ls : List Link) (few : length ls ≤ 256) (deep : D �
       space.small k,
       parts_norm N D m ls (pos 0 -ℤ q) i 0 (length ls - 0),
       less_abs q,
-      mul-le-mul {n₂ = 256} {m₂ = 206158430208} (let h : length ls - 0 ≤ 256 = omega (arith, few) in h)
-          (mul-le-mul {n₂ = 4294967296} {m₂ = 48} (let h : nat_abs (pos 0 -ℤ q) ≤ 4294967296 = omega (arith, less_abs q, space.factor) in h) (let h : 2 * D ≤ 48 = omega arith in h)),
+      mul-le-mul {n₂ = 256} {m₂ = 206158430208} (let h : length ls - 0 ≤ 256 = omega (arith, n.arcs.few) in h)
+          (mul-le-mul {n₂ = 4294967296} {m₂ = 48} (let h : nat_abs (pos 0 -ℤ q) ≤ 4294967296 = omega (arith, less_abs q, space.factor) in h) (let h : 2 * D ≤ 48 = omega (arith, n.arcs.layout.shallow) in h)),
     );
   }
 
-  -- the links before `from` add nothing, where their bits are below bit i
-  pub touched_start : (from : ℕ) → from ≤ length ls → arcs_end N D from ≤ i → Touched N D m i ls q row₀ row₀ from
-  touched_start from h under =
-      walked_first _ part_at left _ _ left_next left_none row₀ from h
-      (λ k l r. part_under (link_in ls k) m (pos 0 -ℤ q) i (link_run N D k) (λ t g. omega (arith, link_within D k from l)) r) all_room
+  -- the links before `from` add nothing: their bits are below bit i
+  pub touched_start : Touched n m i (word q) row₀ row₀ (from + 0)
+  touched_start =
+      rw (same, add-zero from)
+      (walked_first _ part_at left _ _ left_next left_none row₀ from asked.2
+      (λ k l r. part_under (link_in ls k) m (pos 0 -ℤ q) i (link_run N D k) (λ t g. omega (arith, link_within D k from l, asked.3)) r) all_room)
 
-  module _ (row : List ℤ) (k : ℕ) (w : Touched N D m i ls q row₀ row k) where
-    pub touched_end : length ls ≤ k → row ≡ add_terms (times q i (over (arcs ls) (touching N D m)) ∷ []) i row₀
+  -- after t turns
+  module _ {row : List ℤ} (t : ℕ) (walked : Touched n m i (word q) row₀ row (from + t)) where
+    abbrev k : ℕ
+    k = from + t
+
+    so_far : Touched n m i q row₀ row k
+    so_far = rw same at walked
+
+    pub touched_end : k ≡ length ls → row ≡ add_terms (times q i (over (arcs ls) (touching N D m)) ∷ []) i row₀
     unfolding parts_left
     touched_end h =
-        walked_end _ part_at left _ _ left_next left_none row₀ row k h w
+        walked_end _ part_at left _ _ left_next left_none row₀ row k (omega (arith, h)) so_far
         ∙ sym (rw (arcs_start ls) at (parts_added N D m ls q i (length ls - 0) 0 (omega arith) row₀))
 
-    module _ (h : k < length ls) where
-      -- the next link's bits lie in the table, and there is room for its part
-      pub touched_ready : arcs_end N D (length ls) ≤ i + length row₀ → (k ≤ 256) × RunBelow (link_run N D k) (i + length row) × Room (2 ^ 61) (part_at k) row
-      touched_ready top =
-          let g = link_within D k (length ls) h in (
-            omega (arith, few),
-            record { apart = omega arith; inside = λ t l. omega (arith, w.size); end = omega (arith, space.short) },
-            walked_room _ part_at left _ _ left_next left_none row₀ row k h w,
+    -- l is link k
+    module _ {j : ℕ} {l : Link} (turn : (j ≡ k) × (j < length ls) × (l ≡ link_in ls j)) where
+      high : k < length ls
+      high = omega (arith, turn.0, turn.1)
+
+      part_is : link_part l m (word (pos 0 -ℤ word q)) i (link_run N D j) ≡ part_at k
+      part_is = rw (less_is, turn.2, turn.0) refl
+
+      -- its bits lie in the table, and there is room for its part
+      pub touched_ready : (j ≤ 256) × RunBelow (link_run N D j) (i + length row) × Room (2 ^ 61) (link_part l m (word (pos 0 -ℤ word q)) i (link_run N D j)) row
+      touched_ready =
+          let g = link_within D k (length ls) high in (
+            omega (arith, turn.1, n.arcs.few),
+            rw turn.0 (record { apart = omega arith; inside = λ t b. omega (arith, so_far.size, asked.0); end = omega (arith, space.short, so_far.size) }),
+            rw part_is (walked_room _ part_at left _ _ left_next left_none row₀ row k high so_far),
           )
 
       -- a turn adds it
-      pub touched_turn : (next : List ℤ) → next ≡ add_terms (part_at k) i row → Touched N D m i ls q row₀ next (k + 1)
-      touched_turn next e = walked_turn _ part_at left _ _ left_next left_none row₀ row k h w next (sym e)
+      pub touched_turn : {next : List ℤ} → next ≡ add_terms (link_part l m (word (pos 0 -ℤ word q)) i (link_run N D j)) i row → Touched n m i (word q) row₀ next (from + (t + 1))
+      touched_turn {next = next} e =
+          rw (same, ← add_assoc from t 1) (walked_turn _ part_at left _ _ left_next left_none row₀ row k high so_far next (sym (e ∙ ap (λ (f : Formula). add_terms f i row) part_is)))

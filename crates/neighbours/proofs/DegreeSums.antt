@@ -1,6 +1,6 @@
 -- Neighbours in an assignment: the arc bits at each meter are gathered link by link, the squared gaps added up meter by meter. The sums of src/counts.rt and src/degrees.rt cite these. Assumes nothing.
-use Prim.Native.Nat.{ℕ, zero, suc, pred, ◌+◌, ◌-◌, ◌*◌, ◌≤◌, ◌<◌}
-use mathlib.Core.Path.{◌≡◌, refl, ap, ◌∙◌, fun_ext}
+use Prim.Native.Nat.{ℕ, zero, suc, pred, ◌+◌, ◌-◌, ◌*◌, ◌^◌, ◌≤◌, ◌<◌}
+use mathlib.Core.Path.{◌≡◌, refl, sym, ap, ◌∙◌, fun_ext}
 use mathlib.Core.List.{List}
 use native.Mathlib.Omega.{arith}
 use native.Mathlib.Numerals.{add-one}
@@ -8,12 +8,12 @@ use native.Mathlib.Nat.{mul_comm, add-mul}
 use lib.ListN.{length, get_or, set, drop, length-set, length-drop}
 use lib.Seq.{get_or-drop, take_all}
 use Rattle.lists.specs.Sums.{sum_to, same, gap, nth}
-use Rattle.lists.proofs.Sums.{sum_to_zero, sum_to_next, sum_to_eq, times_bit, same_le, same_one, nth_suc}
+use Rattle.lists.proofs.Sums.{gap_small, sum_to_zero, sum_to_next, sum_to_eq, times_bit, same_le, same_one, nth_suc}
 use Rattle.lists.proofs.Stores.{added_same}
 use Rattle.links.specs.Links.{link_in}
 use Rattle.links.specs.declared.Link.{Link}
-use Rattle.links.specs.Survey.{LinkOf, IsSurvey}
-use Rattle.links.proofs.Walk.{link_at}
+use Rattle.links.specs.Survey.{EdgeOf, IsGraph}
+use Rattle.links.proofs.Graph.{edge_at}
 use Rattle.qubo.specs.Formula.{Bits, Assignment}
 use Rattle.onehot.specs.Choices.{bit_at, misses}
 use Rattle.onehot.proofs.Parts.{part_within}
@@ -26,6 +26,9 @@ use Rattle.arcs.proofs.LinkBits.{set_halves}
 use Rattle.arcs.proofs.Summing.{step_up}
 use Rattle.neighbours.specs.Formula.{count_at, touches_of, degree_gaps}
 use Rattle.neighbours.specs.Inner.{count_start, gaps_from}
+use Rattle.neighbours.specs.declared.counts.Counts.{Counts}
+use Rattle.neighbours.specs.declared.counts.Neighbours.{Neighbours}
+use Rattle.neighbours.proofs.Asked.{Numbers, start_of}
 
 -- ---- the neighbour-count bits by themselves, from b on
 
@@ -78,7 +81,7 @@ one_end u v m w h l =
         go (suc a) zero p q e f = omega arith
         go (suc a) (suc b) p q e f = absurd (omega (arith, e (omega arith), f (omega arith)))
 
-module _ (N : ℕ) (used : List ℕ) (ls : List Link) (survey : IsSurvey N ls) (small : (k : ℕ) → k < length ls → get_or used k 0 ≤ 48) (k : ℕ) (h : k < length ls) (s : List ℕ) (g : Gathered used ls k s) where
+module _ (N : ℕ) (used : List ℕ) (ls : List Link) (survey : IsGraph N ls) (small : (k : ℕ) → k < length ls → get_or used k 0 ≤ 48) (k : ℕ) (h : k < length ls) (s : List ℕ) (g : Gathered used ls k s) where
   abbrev w : ℕ
   w = get_or used k 0
 
@@ -89,22 +92,22 @@ module _ (N : ℕ) (used : List ℕ) (ls : List Link) (survey : IsSurvey N ls) (
   v = (link_in ls k).v
 
   within : (m : ℕ) → m ≤ N → m < length s
-  within m l = omega (arith, survey.meters_high, g.size)
+  within m l = omega (arith, survey.few_meters, g.size)
 
-  link : LinkOf N (link_in ls k)
-  link = link_at N ls survey.each k h
+  link : EdgeOf N (link_in ls k)
+  link = edge_at N ls survey.each k h
 
   pub first_ready : ((link_in ls k).u < length s) × (get_or s (link_in ls k).u 0 < 4294967296) × (get_or used k 0 ≤ 48)
   first_ready = (within u (omega (arith, link.ordered, link.v_high)), omega (arith, g.low u, survey.few), small k h)
 
   module _ (t : List ℕ) (first : t ≡ set s (link_in ls k).u (get_or s (link_in ls k).u 0 + get_or used k 0)) where
-    first_at_fact : (m : ℕ) → get_or t m 0 ≡ get_or s m 0 + w * same u m
-    first_at_fact m = added_same s t u w first first_ready.0 m
+    first_added : (m : ℕ) → get_or t m 0 ≡ get_or s m 0 + w * same u m
+    first_added m = added_same s t u w first first_ready.0 m
 
     pub second_ready : ((link_in ls k).v < length t) × (get_or t (link_in ls k).v 0 < 4294967296) × (get_or used k 0 ≤ 48)
     second_ready = (
       rw (first, length-set) (within v link.v_high),
-      omega (arith, first_at_fact v, g.low v, survey.few, small k h, times_bit w (same u v) (same_le u v)),
+      omega (arith, first_added v, g.low v, survey.few, small k h, times_bit w (same u v) (same_le u v)),
       small k h,
     )
 
@@ -118,7 +121,7 @@ module _ (N : ℕ) (used : List ℕ) (ls : List Link) (survey : IsSurvey N ls) (
     }
       where
         both : (m : ℕ) → get_or q m 0 ≡ get_or s m 0 + (w * same u m + w * same v m)
-        both m = omega (arith, first_at_fact m, added_same t q v w second second_ready.0 m)
+        both m = omega (arith, first_added m, added_same t q v w second second_ready.0 m)
 
 module _ (used : List ℕ) (ls : List Link) (k : ℕ) (s : List ℕ) (g : Gathered used ls k s) where
   pub gather_end : length ls ≤ k → (N D : ℕ) (x : List ℕ) → Used N D (length ls) x used → (m : ℕ) → get_or s m 0 ≡ touches_of D (arcs ls) (arc_at N D x) m
@@ -150,43 +153,64 @@ numbers_end part k sum e h = rw (← e) h
 
 -- ---- gaps_of: meter by meter
 
+module _ (n : Neighbours) (sums x : List ℕ) where
+  -- the squared gap of meter v
+  pub gap_at : ℕ → ℕ
+  gap_at v =
+      let counted = sum_to n.d (λ j. j * count_at n.arcs.layout.meters n.arcs.layout.deepest (length n.arcs.links.now) n.d x v j) in
+      gap counted (get_or sums v 0) * gap counted (get_or sums v 0)
+
+  -- those of the meters before v are added up, and v is one of them or the next number; each is at most 12288²
+  pub record Gapped (v sum : ℕ) : Type 0 where
+    pub low : sum + 150994944 ≤ 150994944 * v
+    pub inside : v ≤ n.arcs.layout.meters + 1
+    pub so_far : sum ≡ sum_to (pred v) gap_at
+
+  pub gaps_start : Gapped 1 0
+  gaps_start = record { low = omega arith; inside = omega arith; so_far = sym (sum_to_zero gap_at) }
+
 meter_within : (d v N : ℕ) → 1 ≤ v → v ≤ N → pred v * d + d ≤ N * d
 meter_within d zero N h k = absurd (omega arith)
 meter_within d (suc m) N h k = part_within d m N k
 
-module _ (N D M d : ℕ) (sums x : List ℕ) where
-  -- the squared gap of meter v
-  abbrev gap_at : ℕ → ℕ
-  gap_at v = gap (sum_to d (λ j. j * count_at N D M d x v j)) (get_or sums v 0) * gap (sum_to d (λ j. j * count_at N D M d x v j)) (get_or sums v 0)
+module _ {n : Neighbours} {sums x : List ℕ} {v sum : ℕ} (g : Gapped n sums x v sum) where
+  abbrev N : ℕ
+  N = n.arcs.layout.meters
 
-  -- those of the meters before v
-  pub gaps_to : ℕ → ℕ
-  gaps_to v = sum_to (pred v) gap_at
+  abbrev D : ℕ
+  D = n.arcs.layout.deepest
 
-  pub gaps_start : gaps_to 1 ≡ 0
-  unfolding gaps_to
-  gaps_start = sum_to_zero _
+  abbrev M : ℕ
+  M = length n.arcs.links.now
 
-  pub gaps_end : (v sum : ℕ) → v ≡ N + 1 → sum ≡ gaps_to v → sum ≡ gaps_from N D M d sums x
-  unfolding gaps_to
-  gaps_end v sum e h = rw (e, add-one N) at h
+  pub gaps_end : N < v → (sum ≡ gaps_from N D M n.d sums x) × (sum ≤ 2 ^ 33)
+  unfolding gap_at
+  gaps_end h = (let e : v ≡ N + 1 = omega (arith, g.inside) in rw (e, add-one N) at g.so_far, omega (arith, g.low, g.inside, n.arcs.layout.meters_high))
 
   -- the bits of meter v, from s on
-  module _ (asg : Assignment (arcs_end N D M + N * d) x) (v : ℕ) (low : 1 ≤ v) (high : v ≤ N) (s : ℕ) (start : s ≡ count_start N D M d v) where
-    pub own_fits : s + d ≤ length x
-    own_fits = rw start (omega (arith, asg.size, meter_within d v N low high))
+  module _ (asked : Assignment (arcs_end N D M + N * n.d) x × (N < length sums) × ((m : ℕ) → get_or sums m 0 ≤ 12288)) (k : Counts) (numbers : Numbers n k) (high : v ≤ N) {s : ℕ} (start : s ≡ count_start k.layout.meters k.layout.deepest k.links k.d v) where
+    pub own_fits : s + n.d ≤ length x
+    own_fits = rw (start_of n k numbers v start) (omega (arith, asked.0.size, meter_within n.d v N (omega (arith, g.low)) high))
 
-    own_length : length (slice x s (s + d)) ≡ d
-    own_length = slice_length x s (s + d) d refl own_fits
+    own_length : length (slice x s (s + n.d)) ≡ n.d
+    own_length = slice_length x s (s + n.d) n.d refl own_fits
 
-    own_counted : (c : ℕ) → c ≡ sum_to (length (slice x s (s + d))) (λ j. j * nth (slice x s (s + d)) j) → c ≡ sum_to d (λ j. j * count_at N D M d x v j)
+    own_counted : (c : ℕ) → c ≡ sum_to (length (slice x s (s + n.d))) (λ j. j * nth (slice x s (s + n.d)) j) → c ≡ sum_to n.d (λ j. j * count_at N D M n.d x v j)
     unfolding count_at
     own_counted c e =
-        e ∙ rw own_length (sum_to_eq d _ (λ j. j * count_at N D M d x v j) (λ j p q. ap (λ (t : ℕ). j * t) (slice_nth x s (s + d) d refl own_fits j p q ∙ rw start refl)))
+        e ∙ rw own_length (sum_to_eq n.d _ (λ j. j * count_at N D M n.d x v j) (λ j p q. ap (λ (t : ℕ). j * t) (slice_nth x s (s + n.d) n.d refl own_fits j p q ∙ rw (start_of n k numbers v start) refl)))
 
-    pub gaps_next : (c r : ℕ) → c ≡ sum_to (length (slice x s (s + d))) (λ j. j * nth (slice x s (s + d)) j) → r ≡ gap c (get_or sums v 0) * gap c (get_or sums v 0) → gaps_to (v + 1) ≡ gaps_to v + r
-    unfolding gaps_to
-    gaps_next c r e f = step_up gap_at v low ∙ rw (f, own_counted c e) refl
+    -- a turn adds its squared gap
+    pub gaps_turn : {c : ℕ} → (c ≡ sum_to (length (slice x s (s + n.d))) (λ j. j * nth (slice x s (s + n.d)) j)) × (c ≤ 2209)
+        → {r : ℕ} → r ≡ gap c (get_or sums v 0) * gap c (get_or sums v 0) → Gapped n sums x (v + 1) (sum + r)
+    unfolding gap_at
+    gaps_turn {c = c} e {r = r} f =
+        let small = gap_small c (get_or sums v 0) 12288 (omega (arith, e.1)) (asked.2 v) in
+        record {
+          low = omega (arith, g.low, f, small);
+          inside = omega (arith, high);
+          so_far = ap (λ (t : ℕ). t + r) g.so_far ∙ rw (f, own_counted c e.0) (sym (step_up (gap_at n sums x) v (omega (arith, g.low))));
+        }
 
 -- ---- degree_gaps: what is gathered
 

@@ -1,3 +1,4 @@
+pub mod Asked
 pub mod CountValue
 pub mod CountBits
 pub mod CountRows
@@ -6,3 +7,4 @@ pub mod DegreeTerm
 pub mod DegreeBits
 pub mod DegreeRows
 pub mod DegreeSums
+pub mod Weightless

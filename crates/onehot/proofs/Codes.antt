@@ -118,9 +118,9 @@ choices_are N n p e = record {
     fits zero a b = absurd (omega arith)
     fits (suc k) a b = all_entries n p (and_right (eqb (length p) N) _ e) k (omega (arith, eqb-true (length p) N (and_left (eqb (length p) N) _ e)))
 
-pub are_choices_fact : (N n : ℕ) (p : List ℕ) → Choices N n p → are_choices N n p ≡ true
+pub choices_test : (N n : ℕ) (p : List ℕ) → Choices N n p → are_choices N n p ≡ true
 unfolding are_choices nth
-are_choices_fact N n p c = and_both (eqb (length p) N) _ (eq-eqb (length p) N c.size) (entries_all n p (λ k h. c.fits (suc k) (omega arith) (omega (arith, c.size))))
+choices_test N n p c = and_both (eqb (length p) N) _ (eq-eqb (length p) N c.size) (entries_all n p (λ k h. c.fits (suc k) (omega arith) (omega (arith, c.size))))
 
 -- ---- a plan's code
 
@@ -132,8 +132,8 @@ module _ (N n : ℕ) (p : List ℕ) (ok : Choices N n p) where
   bit_code (suc k) (suc j) a b c d = code_at n p k j (omega (arith, ok.size)) d
 
   -- it is an assignment
-  pub code_bits_fact : Assignment (N * n) (code n p)
-  code_bits_fact = record { size = code_length n p ∙ ap (λ t. t * n) ok.size; bits = code_small n p }
+  pub code_assigned : Assignment (N * n) (code n p)
+  code_assigned = record { size = code_length n p ∙ ap (λ t. t * n) ok.size; bits = code_small n p }
 
   -- exactly one bit is set at each meter
   pub one_each : (v : ℕ) → 1 ≤ v → v ≤ N → set_at n (bit_at n (code n p)) v ≡ 1
@@ -176,7 +176,7 @@ misses_hot N n b = (
 pub hot_code : (N n : ℕ) (x p : List ℕ) → 1 ≤ n → Assignment (N * n) x → Hot N n (bit_at n x) → Choices N n p → ((v : ℕ) → 1 ≤ v → v ≤ N → 1 ≤ bit_at n x v (nth p v)) → x ≡ code n p
 unfolding bit_at set_at
 hot_code N n x p n1 bits hot ok set =
-    ext_get_or 0 x (code n p) (bits.size ∙ sym (code_bits_fact N n p ok).size)
+    ext_get_or 0 x (code n p) (bits.size ∙ sym (code_assigned N n p ok).size)
     (λ q h. rw (← div-add-mod' q n) (at (q / n) (q % n) ((div-lt_iff_lt-mul n1).1 (rw bits.size at h)) (mod-lt q n1)))
   where
     at : (k j : ℕ) → k < N → j < n → get_or x (k * n + j) 0 ≡ get_or (code n p) (k * n + j) 0

@@ -9,3 +9,4 @@ pub mod Candidates
 pub mod LinkTerms
 pub mod LinkSums
 pub mod Counts
+pub mod Chunks

@@ -69,9 +69,9 @@ module _ (f : ℕ → ℕ → ℕ) (n : ℕ) (x : List ℕ) where
 
   -- the link at k: its weight times r, for how many choices f is 1
   module _ (ls : List Link) (k r : ℕ) (e : r ≡ sum_to n (λ i. f (bit_at n x (link_in ls k).u i) (bit_at n x (link_in ls k).v i))) where
-    pub bits_link_fact : (link_in ls k).weight * r ≡ bits_link f n x (link_in ls k)
+    pub bits_link_value : (link_in ls k).weight * r ≡ bits_link f n x (link_in ls k)
     unfolding bits_link
-    bits_link_fact = rw e (sym (sum_to_times n (link_in ls k).weight (λ i. f (bit_at n x (link_in ls k).u i) (bit_at n x (link_in ls k).v i))))
+    bits_link_value = rw e (sym (sum_to_times n (link_in ls k).weight (λ i. f (bit_at n x (link_in ls k).u i) (bit_at n x (link_in ls k).v i))))
 
     pub bits_room : ((u v i : ℕ) → f (bit_at n x u i) (bit_at n x v i) ≤ 1) → (N sum : ℕ) → WithChoices N n ls → Summed (bits_link f n x) ls k sum → k < length ls → sum + (link_in ls k).weight * r ≤ 268431360
-    bits_room one N sum a s h = omega (arith, bits_link_fact, summed_room (bits_link f n x) ls nothing k sum s h, bits_small one a.high N ls a.survey)
+    bits_room one N sum a s h = omega (arith, bits_link_value, summed_room (bits_link f n x) ls nothing k sum s h, bits_small one a.high N ls a.survey)

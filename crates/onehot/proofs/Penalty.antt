@@ -6,6 +6,9 @@ use native.Mathlib.Omega.{arith}
 use native.Mathlib.Nat.{le_trans, mul-le-mul}
 use lib.ListN.{get_or}
 use lib.IntN.{pos, negsuc, sub_ℕ, ◌-ℤ◌, ◌*ℤ◌}
+use mir.Syntax.{w64}
+use mir.Val.{to_z}
+use mir.Facts.{to_z_pos}
 use borrow.Author.Tests.{lt-ltb}
 use Rattle.lists.specs.Sums.{sum_to}
 use Rattle.lists.proofs.Sums.{sum_to_const}
@@ -24,18 +27,18 @@ below k =
     rw (lt-ltb 1 (suc (suc k)) (omega arith), e) refl
 
 -- `miss_squared k` is (1 - k)² in ℤ
-pub miss_squared_fact : (k : ℕ) → pos (miss_squared k) ≡ (pos 1 -ℤ pos k) *ℤ (pos 1 -ℤ pos k)
+pub miss_squared_whole : (k : ℕ) → pos (miss_squared k) ≡ (pos 1 -ℤ pos k) *ℤ (pos 1 -ℤ pos k)
 unfolding miss_squared
-miss_squared_fact zero = refl
-miss_squared_fact (suc zero) = refl
-miss_squared_fact (suc (suc k)) = rw (below k) refl
+miss_squared_whole zero = refl
+miss_squared_whole (suc zero) = refl
+miss_squared_whole (suc (suc k)) = rw (below k) refl
 
 meter_value : (A n : ℕ) (x : List ℕ) (v : ℕ) → term_value (one_hot (pos A) n (bit_number n v)) x ≡ pos A *ℤ pos (miss_squared (set_at n (bit_at n x) v))
 unfolding set_at bit_at
 meter_value A n x v =
     one_hot_value (pos A) n (bit_number n v) x
     ∙ ap (λ z. pos A *ℤ ((pos 1 -ℤ z) *ℤ (pos 1 -ℤ z))) (sum_each_pos n (λ i. get_or x (bit_number n v i) 0))
-    ∙ ap (λ z. pos A *ℤ z) (sym (miss_squared_fact (sum_to n (λ i. get_or x (bit_number n v i) 0))))
+    ∙ ap (λ z. pos A *ℤ z) (sym (miss_squared_whole (sum_to n (λ i. get_or x (bit_number n v i) 0))))
 
 -- the value of the penalty is A times the sum of the squares
 pub one_hots_value : (A N n : ℕ) (x : List ℕ) → value (one_hots A N n) x ≡ pos (A * misses N n (bit_at n x))
@@ -56,6 +59,10 @@ one_hots_constant A N n =
     ∙ sum_each_eq N (λ v. term_constant (one_hot (pos A) n (bit_number n v))) (λ v. pos A) (λ v p q. ap pos (let e : A * 1 ≡ A = omega arith in e))
     ∙ sum_each_pos N (λ v. A)
     ∙ ap pos (sum_to_const N A (λ v. A) (λ i p q. refl))
+
+-- which is so small that the code's signed number is it
+pub constant_signed : (A N : ℕ) → N ≤ 48 → A ≤ 2 ^ 32 → to_z w64 (A * N) ≡ pos (A * N)
+constant_signed A N a b = to_z_pos w64 {n = A * N} (omega (arith, mul-le-mul b a))
 
 -- its norm
 pub one_hots_norm : (A N n : ℕ) → formula_norm (one_hots A N n) ≤ N * (A * ((1 + n) * (1 + n)))

@@ -1,4 +1,4 @@
--- Only contracts between functions cite this: a reader of the public promises may skip it. What the code of this crate and of the kinds above asks for: an accepted site and from 1 to 16 choices. The crate above the kinds shows it before it calls. Assumes nothing.
+-- Only proofs cite this: a reader of the public promises may skip it. What the laws of the one-hot kinds take of a struct of the kind: an accepted site and from 1 to 16 choices. Assumes nothing.
 use Rattle.std.specs.Prelude.{ℕ, ◌≤◌, List}
 use Rattle.links.specs.declared.Link.{Link}
 use Rattle.links.specs.Survey.{IsSurvey}

@@ -11,6 +11,14 @@ ghost use Rattle.onehot.specs.Choices.{bit_at, one_hots, miss_squared, misses, a
 use links::Survey;
 use qubo::Run;
 
+/// How many bits there are: n for each meter.
+pub fn bit_count(meters: usize, n: usize) -> usize
+    requires { (meters ≤ 48) × (n ≤ 16) }
+    ensures { result ≡ meters * n }
+{
+    meters * n
+}
+
 /// How many bits of a part are set. It is so short that a byte holds the sum, and sums of bytes are quick.
 pub fn set_count(part: &[u8]) -> usize
     requires { Bits part.now × (length part.now < 256) }
@@ -192,7 +200,8 @@ pub fn count_choices(plan: &[u8]) -> [u64; 256]
     counts
 }
 
-/// Adds A times the sum over meters of (1 - bits set at it)² to row i, however many meters there are. Bit i belongs to one meter, and only that meter's square has it.
+/// Adds A times the sum over meters of (1 - bits set at it)² to row i, however many meters there are. Bit i belongs to
+/// one meter, and only that meter's square has it.
 pub fn add_one_hots(row: &mut [i64], i: usize, n: usize, penalty: u64)
     requires { (N : ℕ) × (1 ≤ n) × (i < N * n) × (N * n ≤ i + length row.old) × (N * n ≤ 2 ^ 32) × Room (2 ^ 61) (one_hots penalty N n) row.old }
     ensures { (N : ℕ) → i < N * n → row.new ≡ add_terms (one_hots penalty N n) i row.old }

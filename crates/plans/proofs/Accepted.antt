@@ -29,7 +29,7 @@ use Rattle.plans.specs.Calls.{instance_in, accept_number_in, row_number_in, row_
 use Rattle.plans.specs.Best.{Accepted}
 use Rattle.plans.proofs.ByKind.{sound, asked_from, asked_small}
 use Rattle.plans.proofs.Earlier.{Alike, alike_none, stops_some, image_numbered}
-use Rattle.plans.proofs.Refusing.{are_bits_fact, row_within}
+use Rattle.plans.proofs.Refusing.{bits_test, row_within}
 use Rattle.plans.proofs.Posed.{good_survey, good_limits, good_margin, good_count}
 
 -- a valid image, limits that hold, and at most 8,192 bits
@@ -75,7 +75,7 @@ is_tree a e = rw e refl
 
 -- bits that are each 0 or 1 pass the test
 bits_pass : (x : List ℕ) → Bits x → are_bits x ≡ true
-bits_pass x b = are_bits_fact x (λ k _. b k)
+bits_pass x b = bits_test x (λ k _. b k)
 
 -- two lengths that are as needed
 pub both_lengths : (a b c d : ℕ) → a ≡ b → c ≡ d → not (eqb a b && eqb c d) ≡ false
@@ -111,7 +111,7 @@ module _ (s : List ℕ) (a : Ask) (ok : Accepted s a) where
   unfolding code_number_in code_tests
   code_accepts q x e h =
       accepted_then _
-      ∙ refusal_next 9 _ _ (both_lengths (length q) I.plan_bytes (length x) I.bits ((accepted_facts s a ok).is_sound.plan_bytes_fact q e) h)
+      ∙ refusal_next 9 _ _ (both_lengths (length q) I.plan_bytes (length x) I.bits ((accepted_facts s a ok).is_sound.plan_bytes_length q e) h)
       ∙ refusal_last 12 _ (ap not e)
 
   module _ (x q : List ℕ) (b : Assignment I.bits x) (h : length q ≡ I.plan_bytes) where

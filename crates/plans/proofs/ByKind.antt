@@ -34,11 +34,11 @@ penalty_is A s (Groups m) = refl
 penalty_is A s (Tree d) = refl
 
 -- "A plan is N bytes", whatever the kind is
-pub plan_bytes_fact : (A : ℕ) (s : Site) (k : Kind) → s.meters ≡ (instance_by A s k).plan_bytes
+pub plan_bytes_length : (A : ℕ) (s : Site) (k : Kind) → s.meters ≡ (instance_by A s k).plan_bytes
 unfolding instance_by
-plan_bytes_fact A s (Channels n) = refl
-plan_bytes_fact A s (Groups m) = refl
-plan_bytes_fact A s (Tree d) = refl
+plan_bytes_length A s (Channels n) = refl
+plan_bytes_length A s (Groups m) = refl
+plan_bytes_length A s (Tree d) = refl
 
 -- an instance with another A and another energy
 other : Instance → ℕ → Formula → Instance

@@ -1,11 +1,11 @@
 -- The calls of src/lib.rt: what they give where an earlier test refuses, and what the later tests and the kind's own crate decide once image and ask are accepted. Assumes nothing.
 use Prim.Native.Nat.{ℕ, zero, suc, ◌-◌, ◌<◌}
 use mathlib.Core.Bool.{Bool, true, false, not, cond}
-use mathlib.Core.Path.{◌≡◌, refl, sym, ap, ◌∙◌}
+use mathlib.Core.Path.{◌≡◌, refl, sym, ap, ap₂, ◌∙◌}
 use mathlib.Core.List.{List, [], ◌∷◌, ◌++◌}
 use lib.IntN.{ℤ}
 use lib.Dec.{eqb}
-use lib.ListN.{length, take}
+use lib.ListN.{length, take, drop, take-append-drop}
 use native.Mathlib.Omega.{arith}
 use native.Mathlib.Nat.{suc-ne-zero}
 use borrow.Author.Tests.{not-true, not-false}
@@ -230,22 +230,22 @@ module _ (s : List ℕ) (a : Ask) where
         unfolding code_number_in
         code_number = alike _ ∙ code_first ∙ alike_none (code_lengths J.bits J.plan_bytes (length q) (length x)) (lengths_numbered J.bits J.plan_bytes (length q) (length x)) (sym h ∙ z) _
 
-        is_plan_fact : t ≡ I.is_plan q
-        is_plan_fact = is ∙ ap (λ (K : Instance). K.is_plan q) posed.1
+        told_plan : t ≡ I.is_plan q
+        told_plan = is ∙ ap (λ (K : Instance). K.is_plan q) posed.1
 
         is_coded : then ≡ cond t (I.code_of q) x
         unfolding code_after
-        is_coded = by ∙ rw (posed.1, is_plan_fact) refl
+        is_coded = by ∙ rw (posed.1, told_plan) refl
 
         pub code_no_plan : not t ≡ true → CodeDone s a q x 12 then
         code_no_plan u =
-            let c = code_refused s a 12 (suc-ne-zero 11) q x (code_number ∙ refusal_here 12 _ _ (ap not (sym is_plan_fact) ∙ u)) in
+            let c = code_refused s a 12 (suc-ne-zero 11) q x (code_number ∙ refusal_here 12 _ _ (ap not (sym told_plan) ∙ u)) in
             (c.0, is_coded ∙ ap (λ (v : Bool). cond v (I.code_of q) x) (not-true t u) ∙ c.1)
 
         pub code_given : not t ≡ false → CodeDone s a q x 0 then
         unfolding code_after_in
         code_given u =
-            let k : code_number_in s a q x ≡ 0 = code_number ∙ refusal_last 12 _ (ap not (sym is_plan_fact) ∙ u) in
+            let k : code_number_in s a q x ≡ 0 = code_number ∙ refusal_last 12 _ (ap not (sym told_plan) ∙ u) in
             (sym k, is_coded ∙ ap (λ (v : Bool). cond v (I.code_of q) x) (not-false t u) ∙ sym (done (code_number_in s a q x) _ x k))
 
     -- ---- decoding
@@ -295,11 +295,27 @@ take_front : (xs ys : List ℤ) → take (length xs) (xs ++ ys) ≡ xs
 take_front [] ys = refl
 take_front (x ∷ xs) ys = ap (λ (t : List ℤ). x ∷ t) (take_front xs ys)
 
+drop_front : (xs ys : List ℤ) → drop (length xs) (xs ++ ys) ≡ ys
+drop_front [] ys = refl
+drop_front (x ∷ xs) ys = drop_front xs ys
+
+-- in front of the slice afterwards is the part, and behind it what was there
 pub row_front : (s : List ℕ) (a : Ask) (i : ℕ) (out : List ℤ) (len : ℕ) (then : List ℤ) → len ≡ length (row_part_in s a i (length out)) → then ≡ row_after_in s a i out
-    → take len then ≡ row_part_in s a i (length out)
+    → (take len then ≡ row_part_in s a i (length out)) × (drop len then ≡ drop (length (row_part_in s a i (length out))) out)
 unfolding row_part_in row_after_in unless_refused
-row_front s a i out len then p q = rw (p, q) (go (eqb (row_number_in s a i (length out)) 0) _ _ _)
+row_front s a i out len then p q =
+    let I = instance_in s a in
+    rw (p, q) (go (eqb (row_number_in s a i (length out)) 0) (row_of I.formula I.bits i) (I.bits - i) (row_length I.formula I.bits i))
   where
-    go : (b : Bool) (xs ys zs : List ℤ) → take (length (cond b xs [])) (cond b (xs ++ ys) zs) ≡ cond b xs []
-    go true xs ys zs = take_front xs ys
-    go false xs ys zs = refl
+    go : (b : Bool) (xs : List ℤ) (k : ℕ) → length xs ≡ k
+        → (take (length (cond b xs [])) (cond b (xs ++ drop k out) out) ≡ cond b xs []) × (drop (length (cond b xs [])) (cond b (xs ++ drop k out) out) ≡ drop (length (cond b xs [])) out)
+    go true xs k e = (take_front xs (drop k out), drop_front xs (drop k out) ∙ ap (λ (j : ℕ). drop j out) (sym e))
+    go false xs k e = (refl, refl)
+
+-- with the part as it was given, what `rest` says of the slice is what `fill_row` leaves
+pub row_whole : (s : List ℕ) (a : Ask) (i : ℕ) (out : List ℤ)
+    → row_part_in s a i (length out) ++ drop (length (row_part_in s a i (length out))) out ≡ row_after_in s a i out
+row_whole s a i out =
+    let n = length (row_part_in s a i (length out)) in
+    let cut = row_front s a i out n (row_after_in s a i out) refl refl in
+    sym (ap₂ (λ (xs ys : List ℤ). xs ++ ys) cut.0 cut.1) ∙ take-append-drop n (row_after_in s a i out)

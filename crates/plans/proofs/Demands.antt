@@ -341,8 +341,8 @@ module _ (s : List ℕ) (a : Ask) (is : a.kind ≡ 3) (ok : Accepted s a) where
   tree_least t p w = subst (λ (I : Instance). (x : List ℕ) → Assignment I.bits x → LeastEnergy I x ↔ CodesBest (meters s) d (links s) x) (sym tree_is) (tree.least_exactly (meters s) d (links s) tree_asked.survey tree_limits (penalty_asked (site_in s) a) tree_heavy t p w)
 
   -- it is the weight of a best one,
-  pub tree_weight_fact : (t : List Link) → BestTree (meters s) d (links s) t → (x : List ℕ) → Assignment T.bits x → LeastEnergy T x → energy_of T x ≡ pos (total t)
-  tree_weight_fact t b = subst (λ (I : Instance). (x : List ℕ) → Assignment I.bits x → LeastEnergy I x → energy_of I x ≡ pos (total t)) (sym tree_is) (tree.least_weight (meters s) d (links s) tree_asked.survey tree_limits (penalty_asked (site_in s) a) tree_heavy t b)
+  pub tree_weight_least : (t : List Link) → BestTree (meters s) d (links s) t → (x : List ℕ) → Assignment T.bits x → LeastEnergy T x → energy_of T x ≡ pos (total t)
+  tree_weight_least t b = subst (λ (I : Instance). (x : List ℕ) → Assignment I.bits x → LeastEnergy I x → energy_of I x ≡ pos (total t)) (sym tree_is) (tree.least_weight (meters s) d (links s) tree_asked.survey tree_limits (penalty_asked (site_in s) a) tree_heavy t b)
 
   -- which some assignment has,
   pub tree_reached : (t : List Link) → BestTree (meters s) d (links s) t → (x : List ℕ) × Assignment T.bits x × LeastEnergy T x × (energy_of T x ≡ pos (total t))

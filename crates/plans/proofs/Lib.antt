@@ -4,6 +4,7 @@ pub mod Earlier
 pub mod Refusing
 pub mod Posed
 pub mod Calling
+pub mod Front
 pub mod Accepted
 pub mod Demands
 pub mod Worked

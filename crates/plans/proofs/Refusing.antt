@@ -105,10 +105,10 @@ count_few b z = ltb-false most_bits b (refusal_none 7 _ _ z).0
 
 -- ---- bits
 
-pub are_bits_fact : (x : List ℕ) → ((k : ℕ) → k < length x → get_or x k 0 ≤ 1) → are_bits x ≡ true
+pub bits_test : (x : List ℕ) → ((k : ℕ) → k < length x → get_or x k 0 ≤ 1) → are_bits x ≡ true
 unfolding are_bits all
-are_bits_fact [] h = refl
-are_bits_fact (b ∷ x) h = and_both (leb b 1) _ (le-leb b 1 (h 0 (omega arith))) (are_bits_fact x (λ k l. h (suc k) (omega arith)))
+bits_test [] h = refl
+bits_test (b ∷ x) h = and_both (leb b 1) _ (le-leb b 1 (h 0 (omega arith))) (bits_test x (λ k l. h (suc k) (omega arith)))
 
 bits_are : (x : List ℕ) → are_bits x ≡ true → Bits x
 unfolding are_bits all
@@ -143,7 +143,7 @@ topped_more x i top t = record {
 pub topped_end : (x : List ℕ) (i top : ℕ) → i ≡ length x → Topped x i top → leb top 1 ≡ are_bits x
 topped_end x i top e t =
     elim (dec_le top 1) [
-      | yes h ↦ le-leb top 1 h ∙ sym (are_bits_fact x (λ k l. omega (arith, t.within k (omega arith))))
+      | yes h ↦ le-leb top 1 h ∙ sym (bits_test x (λ k l. omega (arith, t.within k (omega arith))))
       | no h ↦ lt-leb top 1 (omega arith) ∙ sym (t.reached (omega arith))
     ]
 

@@ -1,5 +1,6 @@
 -- What the public calls give, and all lent bytes that they leave, of the bytes s of an image and what is asked, whatever these are. Begin, add and remove are those of crate `site`. Assumes nothing.
-use Rattle.std.specs.Prelude.{ℕ, List, [], ◌++◌, length, ℤ}
+use Rattle.std.specs.Prelude.{ℕ, List, [], ◌++◌, length, drop, ℤ}
+use Rattle.std.specs.Borrow.{Lends, MutBor, Fml, Array, i64}
 use Rattle.qubo.specs.Table.{constant_of, row_of}
 use Rattle.qubo.specs.Instance.{Instance, energy_of}
 use Rattle.site.specs.Refusal.{refusal, unless_refused}
@@ -45,6 +46,10 @@ row_part_in s a i room = unless_refused (row_number_in s a i room) (row_of (inst
 -- the lent slice afterwards: row i in front of it, "the rest of the slice is unaltered"
 unfoldable pub row_after_in : List ℕ → Ask → ℕ → List ℤ → List ℤ
 row_after_in s a i out = unless_refused (row_number_in s a i (length out)) (row_filled (instance_in s a) i out) out
+
+-- the lent slice when the loan of the part ends: what the part then holds, and behind it what lay there before
+abbrev pub row_rest_in : List ℕ → Ask → ℕ → MutBor (List ℤ) → MutBor (List ℤ) → Fml
+row_rest_in s a i out part = Lends (Array i64 0) (Array i64 0) out part (λ w. w ++ drop (length (row_part_in s a i (length out.now))) out.now)
 
 -- ---- the energy of the bits x
 

@@ -24,7 +24,7 @@ instance_for (posed.Channels c) = channels.instance c.penalty c.survey.meters c.
 instance_for (posed.Groups g) = groups.instance g.penalty g.survey.meters g.m g.survey.links.now
 instance_for (posed.Tree t) = tree.instance t.penalty t.survey.meters t.d t.survey.links.now
 
--- the greatest A that the code of a kind takes
+-- the greatest A that the struct of a kind takes (only proofs cite it)
 unfoldable pub most_penalty : Kind → ℕ
 most_penalty (Channels n) = 2 ^ 32
 most_penalty (Groups m) = 2 ^ 32

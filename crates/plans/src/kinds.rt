@@ -21,6 +21,7 @@ fn allows(kind: Kind, meters: usize) -> bool
 }
 
 /// The kind that is asked for, where there is such a kind and its limits hold.
+// No TryFrom: the number of meters decides too.
 pub(crate) fn kind_of(ask: Ask, meters: usize) -> Option<Kind>
     ensures { MatchOption result (bad_kind meters ask ≡ true) (λ k. (bad_kind meters ask ≡ false) × (k ≡ kind_of ask)) }
 {

@@ -1,9 +1,12 @@
-// The public calls: the image of a site and what is asked of it in; table, energies, codes and plans out. None asks anything of its caller: each gives its result, or the first refusal that applies and then alters nothing lent to it.
-// The contracts state all of that but for one thing: what `row` leaves in the slice that it is lent, outside the part that it returns. No contract can speak of that; `trials` and `surveys` compare it.
-// Two lines in each call pose the problem: one function that is lent a closure was tried, and what a call that is refused before the closure runs leaves of the bytes that the closure holds was not proved.
+// The public calls: the image of a site and what is asked of it in; table, energies, codes and plans out. None asks
+// anything of its caller: each gives its result, or the first refusal that applies and then alters nothing lent to it.
+// The contracts state all of that. What the slice lent to `row` holds is stated for the time when the part's loan ends, in the clause `rest`.
+// Two lines in each call pose the problem: one function that is lent a closure was tried, and what a call that is
+// refused before the closure runs leaves of the bytes that the closure holds was not proved.
 // Image and ask are two arguments in each call, as the header has them.
 // What each call gives is defined in specs/Calls.antt; the three demands are stated in proofs/Demands.antt.
-// The files: the calls here, but for those that edit an image, which are those of `site`; posing.rt reads the image and poses the problem, for all of them; refusals.rt has the tests; kinds.rt and problem.rt every `match` on the kind.
+// The files: the calls here, but for those that edit an image, which are those of `site`; posing.rt reads the image and
+// poses the problem, for all of them; refusals.rt has the tests; kinds.rt and problem.rt every `match` on the kind.
 #![tactic(auto)]
 
 mod kinds;
@@ -12,19 +15,18 @@ mod problem;
 mod refusals;
 
 ghost use Rattle.std.specs.Prelude.{◌≡◌, ◌≤◌, ◌<◌, ◌^◌, length, IfOk, MatchResult};
+ghost use Rattle.std.specs.Borrow.{sem};
 ghost use Rattle.site.specs.Refusal.{number_of, number_told};
 ghost use Rattle.plans.specs.Answers.{told};
 ghost use Rattle.plans.specs.Refusals.{most_bits};
-ghost use Rattle.plans.specs.Calls.{bits_answer_in, penalty_answer_in, constant_answer_in, row_number_in, row_part_in, row_after_in, energy_answer_in, code_number_in, code_after_in, decode_answer_in, decode_after_in};
+ghost use Rattle.plans.specs.Calls.{bits_answer_in, penalty_answer_in, constant_answer_in, row_number_in, row_part_in, row_after_in, row_rest_in, energy_answer_in, code_number_in, code_after_in, decode_answer_in, decode_after_in};
 
-use links::Link;
 pub use qubo::Decoded;
 use qubo::Problem;
 // `begin` is refused by 1 or 7, `add` by 1, 2, 3, 4 or 6, `remove` by 1, 2 or 5; their contracts are in site/src/lib.rt.
 pub use site::{Refusal, add, begin, remove};
-
 // The places that the links of an image are read into.
-const NO_LINKS: [Link; 256] = [site::NO_LINK; 256];
+use site::NO_LINKS;
 
 /// What a caller asks for: the number of a kind, its parameter, and a margin that is added to A.
 // C passes it by value, so the kind is a number here.
@@ -96,16 +98,26 @@ fn fill(image: &[u8], ask: Ask, i: u64, out: &mut [i64]) -> Result<usize, Refusa
     Ok(bits - at)
 }
 
+// The lent slice itself, with row i in front of it and the rest unaltered, and the length of that row, 0 on refusal.
+fn filled<'a>(image: &[u8], ask: Ask, i: u64, out: &'a mut [i64]) -> (&'a mut [i64], usize)
+    ensures same { (result.0.ghost_name ≡ out.entry.ghost_name) × (result.0.ref_ptr ≡ out.entry.ref_ptr) }
+    ensures row { result.0.now ≡ row_after_in image.now ask i out.old }
+    ensures len { result.1 ≡ length (row_part_in image.now ask i (length out.old)) }
+{
+    let len = fill(image, ask, i, &mut out[..]).unwrap_or(0);
+    (out, len)
+}
+
 /// Row i of the table as the front part of the lent slice, empty only on refusal; `row_refusal` gives the refusal.
-// A slice of which a part is returned is spent: the contract has the part and where it begins, and cannot
-// have the rest. So there is nothing here but `fill`, which states the whole slice, and the part.
+// `rest`: when the part's loan ends, the lent slice holds what the part then holds, and behind it what it held before.
 pub fn row<'a>(image: &[u8], ask: Ask, i: u64, out: &'a mut [i64]) -> &'a mut [i64]
     ensures lent { image.exit.now ≡ image.entry.now }
     ensures part { result.now ≡ row_part_in image.now ask i (length out.old) }
     ensures place { result.ref_ptr ≡ out.entry.ref_ptr }
+    ensures* rest { sem 𝓛 (row_rest_in image.now ask i out.entry result) }
 {
-    let len = fill(image, ask, i, &mut out[..]).unwrap_or(0);
-    &mut out[..len]
+    let (all, len) = filled(image, ask, i, out);
+    &mut all[..len]
 }
 
 /// Whether `row` takes the same input, or the refusal: 1, 7, 18, 8, 10 or 9. It alters nothing.

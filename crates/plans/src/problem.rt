@@ -35,11 +35,11 @@ impl<'a> Posed<'a> {
                 Posed::Channels(Channels { survey, n, penalty })
             }
             Kind::Groups(m) => {
-                let penalty = Groups::own_penalty(&survey) + margin;
+                let penalty = Groups::own_penalty(survey.links) + margin;
                 Posed::Groups(Groups { survey, m, penalty })
             }
             Kind::Tree(d) => {
-                let penalty = Tree::own_penalty(&survey) + margin;
+                let penalty = Tree::own_penalty(survey.links) + margin;
                 Posed::Tree(Tree { survey, d, penalty })
             }
         }

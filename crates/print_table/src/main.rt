@@ -1,7 +1,9 @@
-// Prints the table of an image and a kind with its parameter: 2,066 bytes on standard input, the image and then the two numbers of a byte each. A line `Q bits constant`, then a line `i j value` for each
+// Prints the table of an image and a kind with its parameter: 2,066 bytes on standard input, the image and then the two
+// numbers of a byte each. A line `Q bits constant`, then a line `i j value` for each
 // number that is not 0, i rising, then j rising, with `i i` for a single bit; or one line, `refused` and the number.
 // What the numbers mean: E = constant + the value of each bit that is set + the value of each pair i < j whose bits are both set, once.
-// A table is whole or said not to be: the first write that fails is the last, and standard error then has a line about it. So it has where the input could not be read.
+// A table is whole or said not to be: the first write that fails is the last, and standard error then has a line about
+// it. So it has where the input could not be read.
 #![tactic(auto)]
 
 mod streams;

@@ -41,7 +41,8 @@ fn timed_out() -> Error {
     Error::from(ErrorKind::TimedOut)
 }
 
-// One loop for both, lent the call as a closure, was tried: it asks something of the closure, by a `requires`, and the bound that `Read` and `Write` have on the count is then not proved at once.
+// One loop for both, lent the call as a closure, was tried: it asks something of the closure, by a `requires`, and the
+// bound that `Read` and `Write` have on the count is then not proved at once.
 impl<C: Clock, S: Read> Read for Patient<'_, C, S> {
     fn read(&mut self, buf: &mut [u8]) -> io::Result<usize> {
         for _ in 0..TRIES {
@@ -79,7 +80,9 @@ fn output_file<R: Files>(rt: &R) -> Option<R::File> {
     OpenOptions::new().write(true).open(rt, OUTPUT).ok()
 }
 
-/// Sees that what standard output took is kept, as far as the system can say: of a file, that it has reached its device, since some file systems tell only then that it is lost. Where it is no file, or one that cannot be opened again, nothing can be asked.
+/// Sees that what standard output took is kept, as far as the system can say: of a file, that it has reached its device,
+/// since some file systems tell only then that it is lost. Where it is no file, or one that cannot be opened again,
+/// nothing can be asked.
 pub fn sync_output(rt: &impl Files) -> io::Result<()> {
     match output_file(rt) {
         Some(file) => file.sync_data(),

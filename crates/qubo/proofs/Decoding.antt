@@ -1,4 +1,4 @@
--- Decoding where nothing is repaired: the test of decoding says whether bits code a plan, and a sum that is 0 exactly where they do decides the answer. Assumes nothing.
+-- Decoding: the test of decoding says whether bits code a plan, and a sum that is 0 exactly where they do decides the answer. Assumes nothing.
 use Prim.Native.Nat.{ℕ}
 use mathlib.Core.Path.{◌≡◌, refl, sym, ap, ◌∙◌}
 use mathlib.Core.Logic.{◌↔◌}
@@ -33,7 +33,7 @@ module _ (I : Instance) (x : List ℕ) (decides : (I.decodes x ≡ true) ↔ Cod
   unfolding answer_of plan_after
   none_decoded n q = rw (decodes_test, ne_eqb B 0 n) (refl, refl)
 
-  -- it is 0: the candidate, its weight, and nothing repaired
-  pub plan_decoded : B ≡ 0 → I.repaired x ≡ 0 → (q p : List ℕ) (w : ℕ) → p ≡ I.decoded x → w ≡ I.weight p → (Some (record { weight = w; repaired = 0 }) ≡ answer_of I x) × (p ≡ plan_after I x q)
+  -- it is 0: the candidate, its weight, and how many are repaired
+  pub plan_decoded : B ≡ 0 → (q p : List ℕ) (w : ℕ) → p ≡ I.decoded x → w ≡ I.weight p → (Some (record { weight = w; repaired = I.repaired x }) ≡ answer_of I x) × (p ≡ plan_after I x q)
   unfolding answer_of plan_after
-  plan_decoded z r q p w e c = rw (decodes_test, eq-eqb B 0 z) (ap (λ (t : ℕ). Some (record { weight = t; repaired = 0 })) (c ∙ ap I.weight e) ∙ ap (λ (t : ℕ). Some (record { weight = I.weight (I.decoded x); repaired = t })) (sym r), e)
+  plan_decoded z q p w e c = rw (decodes_test, eq-eqb B 0 z) (ap (λ (t : ℕ). Some (record { weight = t; repaired = I.repaired x })) (c ∙ ap I.weight e), e)

@@ -17,3 +17,4 @@ pub mod RowWalk
 pub mod Runs
 pub mod RowShapes
 pub mod Turns
+pub mod Sets

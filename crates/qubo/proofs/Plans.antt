@@ -23,7 +23,7 @@ pub record Sound (I : Instance) : Type 0 where
   -- "The sum of the absolute values of a table's numbers is below 2^54"
   pub small : table_abs (table_is I) < 2 ^ 54
   -- a plan has plan_bytes bytes, and its code is an assignment
-  pub plan_bytes_fact : (p : List ℕ) → I.is_plan p ≡ true → length p ≡ I.plan_bytes
+  pub plan_bytes_length : (p : List ℕ) → I.is_plan p ≡ true → length p ≡ I.plan_bytes
   pub assigned : (p : List ℕ) → I.is_plan p ≡ true → Assignment I.bits (I.code_of p)
   -- that decodes to the same plan, and nothing is repaired
   pub decodes_code : (p : List ℕ) → I.is_plan p ≡ true → I.decodes (I.code_of p) ≡ true

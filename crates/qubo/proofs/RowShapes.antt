@@ -46,8 +46,8 @@ run_from q run i t r h n =
 abbrev pub own_and_later : ℤ → ℤ → Run → ℕ → ℕ → List ℤ → List ℤ
 own_and_later p q run i t r = add_terms (times q i (run_sum (later run i t)) ∷ []) i (add_terms (single p i ∷ []) i r)
 
-own_and_later_fact : (p q s : ℤ) (run : Run) (i t : ℕ) (r : List ℤ) → 1 ≤ run.step → IsNumber run i t → p +ℤ q ≡ s → add_terms (times q i (run_sum run) ∷ []) i (add_terms (single p i ∷ []) i r) ≡ own_and_later s q run i t r
-own_and_later_fact p q s run i t r h n e =
+own_then_run : (p q s : ℤ) (run : Run) (i t : ℕ) (r : List ℤ) → 1 ≤ run.step → IsNumber run i t → p +ℤ q ≡ s → add_terms (times q i (run_sum run) ∷ []) i (add_terms (single p i ∷ []) i r) ≡ own_and_later s q run i t r
+own_then_run p q s run i t r h n e =
     run_from q run i t (add_terms (single p i ∷ []) i r) h n
     ∙ ap (add_terms (times q i (run_sum (later run i t)) ∷ []) i) (single_sum p q i r ∙ ap (λ z. add_terms (single z i ∷ []) i r) e)
 
@@ -67,7 +67,7 @@ one_hot_row a run i t r h n =
     ∙ add_two (single o i) (times q i (bits (negsuc 0) run.count (run_bit run))) i r
     ∙ product_bits q (negsuc 0) (bit i) run.count (run_bit run) i s
     ∙ ap (λ z. add_terms (times z i (run_sum run) ∷ []) i s) (solve (con (pos 2) ⊗ (var 0 ⊗ con (negsuc 0)) ⊗ con (negsuc 0)) (con (pos 2) ⊗ var 0) tt (a ∷ []))
-    ∙ own_and_later_fact o (pos 2 *ℤ a) (pos 0 -ℤ a) run i t r h n
+    ∙ own_then_run o (pos 2 *ℤ a) (pos 0 -ℤ a) run i t r h n
     (solve (var 0 ⊗ (con (pos 1) ⊗ con (negsuc 0) ⊕ con (negsuc 0) ⊗ con (pos 1) ⊖ con (negsuc 0) ⊗ con (negsuc 0)) ⊕ con (pos 2) ⊗ var 0) (con (pos 0) ⊖ var 0) tt (a ∷ []))
 
 -- ---- squared differences: where bit i is of the first run alone, a at it, 2 a at each bit of the run after it, -2 a at each bit of the other
@@ -93,7 +93,7 @@ difference_row a left right i t r h n d =
     ∙ add_two (single o i) (times q i (run_sum left ++ u)) i r
     ∙ product_split q (bit i) (pos 0) (run_sum left) u i s
     ∙ ap (λ z. add_terms (times q i u ∷ []) i (add_terms (times z i (run_sum left) ∷ []) i s)) (solve (con (pos 2) ⊗ (var 0 ⊗ con (pos 1))) (con (pos 2) ⊗ var 0) tt (a ∷ []))
-    ∙ ap (add_terms (times q i u ∷ []) i) (own_and_later_fact o (pos 2 *ℤ a) a left i t r h n
+    ∙ ap (add_terms (times q i u ∷ []) i) (own_then_run o (pos 2 *ℤ a) a left i t r h n
     (solve (var 0 ⊗ (con (pos 0) ⊗ con (pos 1) ⊕ con (pos 1) ⊗ con (pos 0) ⊖ con (pos 1) ⊗ con (pos 1)) ⊕ con (pos 2) ⊗ var 0) (var 0) tt (a ∷ [])))
     ∙ product_bits q (negsuc 0) (bit i) right.count (run_bit right) i (own_and_later a (pos 2 *ℤ a) left i t r)
     ∙ ap (λ z. add_terms (times z i (run_sum right) ∷ []) i (own_and_later a (pos 2 *ℤ a) left i t r)) (solve (con (pos 2) ⊗ (var 0 ⊗ con (pos 1)) ⊗ con (negsuc 0)) (con (pos 0) ⊖ con (pos 2) ⊗ var 0) tt (a ∷ []))
@@ -141,9 +141,9 @@ pub unequal_low : (q : ℤ) (i r : ℕ) (row : List ℤ) → i < r → add_terms
 unequal_low q i r row h = rw (unequal_difference q i r) (own_unequal q i r row (omega arith))
 
 -- it is the higher one: the pair stands in the other's row
-pub unequal_high : (q : ℤ) (p i : ℕ) (row : List ℤ) → p < i → add_terms (unequal q p i ∷ []) i row ≡ add_terms (single q i ∷ []) i row
-unequal_high q p i row h =
-    rw (unequal_difference q p i)
+pub unequal_high : (q : ℤ) (p r i : ℕ) (row : List ℤ) → r ≡ i → p < i → add_terms (unequal q p r ∷ []) i row ≡ add_terms (single q i ∷ []) i row
+unequal_high q p r i row e h =
+    rw (e, unequal_difference q p i)
     (difference_swap q (one_bit p) (one_bit i) i row ∙ own_unequal q i p row (omega arith) ∙ pair_below (pos 0 -ℤ pos 2 *ℤ q) i p (add_terms (single q i ∷ []) i row) h)
 
 -- ---- norms

@@ -32,13 +32,6 @@ run_same_top r top other e h = record { apart = h.apart; inside = λ t l. omega 
 
 -- ---- a bit of a run
 module _ (r : Run) (i t : ℕ) (top : ℕ) (h : RunBelow r top) (n : IsNumber r i t) where
-  pub number_inside : i < top
-  number_inside = omega (arith, n.here, h.inside t n.below)
-
-  -- a step further is still no overflow
-  pub number_step : i + r.step ≤ 2 ^ 63
-  number_step = omega (arith, n.here, h.end, mul-le-mul_right r.step (let k : t + 1 ≤ r.count = omega (arith, n.below) in k), add-mul t 1 r.step)
-
   pub later_below : RunBelow (later r i t) top
   later_below =
       record {

@@ -112,16 +112,16 @@ product_norm a k l n =
     let v : nat_abs l.constant + abs_from (coefficient l) 0 n ≤ linear_norm l = omega (arith, abs_from_coef l.entries n) in
     omega (arith, mul-le-mul_left (nat_abs a) (mul-le-mul u v))
 
-term_norm_fact : (t : Term) (n : ℕ) → nat_abs (term_constant t) + abs_rows (term_single t) (term_pair t) 0 n ≤ term_norm t
-term_norm_fact (square a l) n =
+term_bound : (t : Term) (n : ℕ) → nat_abs (term_constant t) + abs_rows (term_single t) (term_pair t) 0 n ≤ term_norm t
+term_bound (square a l) n =
     let e = ap₂ (λ s p. abs_rows s p 0 n) (single_square a l) (pair_square a l) in
     omega (arith, product_norm a l l n)
-term_norm_fact (product a k l) n = product_norm a k l n
+term_bound (product a k l) n = product_norm a k l n
 
 by_functions : (f : Formula) (n : ℕ) → nat_abs (constant_of f) + abs_rows (single_of f) (pair_of f) 0 n ≤ formula_norm f
 by_functions [] n = omega (arith, abs_rows_zero 0 n)
 by_functions (t ∷ f) n =
-    omega (arith, nat_abs_+ℤ (term_constant t) (constant_of f), abs_rows_add (term_single t) (single_of f) (term_pair t) (pair_of f) 0 n, term_norm_fact t n, by_functions f n)
+    omega (arith, nat_abs_+ℤ (term_constant t) (constant_of f), abs_rows_add (term_single t) (single_of f) (term_pair t) (pair_of f) 0 n, term_bound t n, by_functions f n)
 
 -- the sum of the absolute values of the table's numbers is at most the norm
 pub table_bound : (f : Formula) (n : ℕ) → table_abs (table_of f n) ≤ formula_norm f

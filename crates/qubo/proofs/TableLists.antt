@@ -34,16 +34,16 @@ row_from f bits i n e =
     let m : bits - i ≡ suc n = omega arith in
     ap (λ (k : ℕ). list_of k (cell f i)) m ∙ ap (λ (r : List ℤ). single_of f i ∷ r) (list_from (λ k. cell f i (suc k)) (pair_of f i) (suc i) n (λ k. ap (pair_of f i) (step i k)))
 
-rows_from_fact : (f : Formula) (bits i n : ℕ) (R : ℕ → List ℤ) → bits ≡ i + n → ((k : ℕ) → R k ≡ row_of f bits (i + k)) → list_of n R ≡ rows_from (single_of f) (pair_of f) i n
-rows_from_fact f bits i zero R e h = refl
-rows_from_fact f bits i (suc n) R e h =
-    ap₂ ◌∷◌ (h 0 ∙ ap (row_of f bits) (add-zero i) ∙ row_from f bits i n e) (rows_from_fact f bits (suc i) n (λ k. R (suc k)) (omega arith) (λ k. h (suc k) ∙ ap (row_of f bits) (step i k)))
+list_rows_from : (f : Formula) (bits i n : ℕ) (R : ℕ → List ℤ) → bits ≡ i + n → ((k : ℕ) → R k ≡ row_of f bits (i + k)) → list_of n R ≡ rows_from (single_of f) (pair_of f) i n
+list_rows_from f bits i zero R e h = refl
+list_rows_from f bits i (suc n) R e h =
+    ap₂ ◌∷◌ (h 0 ∙ ap (row_of f bits) (add-zero i) ∙ row_from f bits i n e) (list_rows_from f bits (suc i) n (λ k. R (suc k)) (omega arith) (λ k. h (suc k) ∙ ap (row_of f bits) (step i k)))
 
 pub table_rows : (f : Formula) (bits : ℕ) → (table_of f bits).rows ≡ rows_from (single_of f) (pair_of f) 0 bits
 unfolding table_of
 table_rows f bits =
     let e : bits ≡ 0 + bits = omega arith in
-    rows_from_fact f bits 0 bits (row_of f bits) e (λ k. ap (row_of f bits) (let d : k ≡ 0 + k = omega arith in d))
+    list_rows_from f bits 0 bits (row_of f bits) e (λ k. ap (row_of f bits) (let d : k ≡ 0 + k = omega arith in d))
 
 -- ---- their entries
 pub from_at : (f : ℕ → ℤ) (i n k : ℕ) → k < n → get_or (from f i n) k (pos 0) ≡ f (i + k)

@@ -2,24 +2,26 @@
 use mathlib.Core.Path.{◌≡◌, refl, sym, ap, ap₂, ◌∙◌}
 use mathlib.Core.List.{List, [], ◌∷◌}
 use Prim.Native.Nat.{ℕ, zero, suc, ◌+◌, ◌-◌, ◌*◌, ◌^◌, ◌≤◌, ◌<◌}
-use native.Mathlib.Nat.{lt_of_le_of_lt, mul-le-mul_left, mul-le-mul_right, mul-add}
+use native.Mathlib.Nat.{le_refl, lt_of_le_of_lt, mul-le-mul_left, mul-le-mul_right, mul-add}
 use native.Mathlib.Numerals.{add-one}
 use native.Mathlib.Omega.{arith}
-use lib.Dec.{T, leb, leb→le}
 use lib.ListN.{length, get_or}
 use lib.IntN.{ℤ, pos, neg_ℤ, nat_abs, ◌-ℤ◌, ◌*ℤ◌, +ℤ_idl}
 use mir.Syntax.{w64}
-use mir.Val.{SFits}
+use mir.Val.{SFits, to_z, of_z}
+use mir.Facts.{to_z-of_z}
 use Rattle.qubo.specs.Formula.{Term, Formula}
+use Rattle.qubo.specs.Table.{coef}
 use Rattle.qubo.specs.Norm.{term_norm}
 use Rattle.qubo.specs.Terms.{bit, bits, single, pair, unequal, times}
-use Rattle.qubo.specs.Rows.{zeros, add_terms, run_sum, run_bit, run_one_hot, run_difference, IsNumber, later, Room}
+use Rattle.qubo.specs.Rows.{zeros, add_terms, run_sum, run_bit, run_one_hot, run_difference, RunBelow, IsNumber, later, Room}
 use Rattle.qubo.specs.declared.Run.{Run}
 use Rattle.qubo.proofs.Ints.{nat_abs_*ℤ, nat_abs_negℤ}
 use Rattle.qubo.proofs.Order.{mag_nat_abs}
-use Rattle.qubo.proofs.RowAction.{added_abs, room_front, room_back}
+use Rattle.qubo.proofs.Runs.{run_same_top, later_below}
+use Rattle.qubo.proofs.RowAction.{add_top, add_absent, added_abs, room_front, room_back}
 use Rattle.qubo.proofs.RowTerms.{product_split, single_norm, times_norm}
-use Rattle.qubo.proofs.RowShapes.{bits_times_norm, one_hot_norm, difference_norm, unequal_norm}
+use Rattle.qubo.proofs.RowShapes.{difference_absent, bits_times_norm, one_hot_norm, difference_norm, unequal_norm}
 
 -- a number whose absolute value is below 2 ^ 63 fits an i64
 pub fits_abs : (z : ℤ) → nat_abs z < 2 ^ 63 → SFits w64 z
@@ -49,25 +51,39 @@ run_room limit v i t n b r l h =
       );
     }
 
+-- what is left of a run behind bit i, for a row with as many numbers
+pub later_kept : (x r : Run) (i t : ℕ) (f : Formula) (u v : List ℤ) → x ≡ later r i t → v ≡ add_terms f i u → RunBelow r (i + length u) → IsNumber r i t → RunBelow x (i + length v)
+later_kept x r i t f u v e g h n = rw e (run_same_top (later r i t) (i + length u) (i + length v) (add_top f i u v g) (later_below r i t (i + length u) h n))
+
 -- ---- add_own_one_hot and add_own_difference: their numbers fit, and there is room for their parts
 pub less_abs : (a : ℤ) → nat_abs (pos 0 -ℤ a) ≡ nat_abs a
 less_abs a = ap nat_abs (+ℤ_idl (neg_ℤ a)) ∙ nat_abs_negℤ a
 
--- a factor q of at most 2, as a number that is written out
-pub twice_abs : (q : ℕ) (a : ℤ) → T (leb q 2) → nat_abs (pos q *ℤ a) ≤ 2 * nat_abs a
-twice_abs q a h = omega (arith, nat_abs_*ℤ (pos q) a, mul-le-mul_right (nat_abs a) (leb→le q 2 h))
+-- a factor q of at most 2
+pub twice_abs : (q : ℕ) (a : ℤ) → q ≤ 2 → nat_abs (pos q *ℤ a) ≤ 2 * nat_abs a
+twice_abs q a h = omega (arith, nat_abs_*ℤ (pos q) a, mul-le-mul_right (nat_abs a) h)
 
-pub less_twice_abs : (q : ℕ) (a : ℤ) → T (leb q 2) → nat_abs (pos 0 -ℤ pos q *ℤ a) ≤ 2 * nat_abs a
+pub less_twice_abs : (q : ℕ) (a : ℤ) → q ≤ 2 → nat_abs (pos 0 -ℤ pos q *ℤ a) ≤ 2 * nat_abs a
 less_twice_abs q a h = omega (arith, less_abs (pos q *ℤ a), twice_abs q a h)
 
 pub fits_less : (a : ℤ) → nat_abs a ≤ 2 ^ 61 → SFits w64 (pos 0 -ℤ a)
 fits_less a h = fits_abs (pos 0 -ℤ a) (omega (arith, less_abs a))
 
-pub fits_twice : (q : ℕ) (a : ℤ) → T (leb q 2) → nat_abs a ≤ 2 ^ 61 → SFits w64 (pos q *ℤ a)
+pub fits_twice : (q : ℕ) (a : ℤ) → q ≤ 2 → nat_abs a ≤ 2 ^ 61 → SFits w64 (pos q *ℤ a)
 fits_twice q a h g = fits_abs (pos q *ℤ a) (omega (arith, twice_abs q a h))
 
-pub fits_less_twice : (q : ℕ) (a : ℤ) → T (leb q 2) → nat_abs a ≤ 2 ^ 61 → SFits w64 (pos 0 -ℤ pos q *ℤ a)
+pub fits_less_twice : (q : ℕ) (a : ℤ) → q ≤ 2 → nat_abs a ≤ 2 ^ 61 → SFits w64 (pos 0 -ℤ pos q *ℤ a)
 fits_less_twice q a h g = fits_abs (pos 0 -ℤ pos q *ℤ a) (omega (arith, less_twice_abs q a h))
+
+-- and are the same where the code holds them
+pub held_less : (a : ℤ) → nat_abs a ≤ 2 ^ 61 → to_z w64 (of_z w64 (pos 0 -ℤ a)) ≡ pos 0 -ℤ a
+held_less a h = to_z-of_z (fits_less a h)
+
+pub held_twice : (q : ℕ) (a : ℤ) → q ≤ 2 → nat_abs a ≤ 2 ^ 61 → to_z w64 (of_z w64 (pos q *ℤ a)) ≡ pos q *ℤ a
+held_twice q a h g = to_z-of_z (fits_twice q a h g)
+
+pub held_less_twice : (q : ℕ) (a : ℤ) → q ≤ 2 → nat_abs a ≤ 2 ^ 61 → to_z w64 (of_z w64 (pos 0 -ℤ pos q *ℤ a)) ≡ pos 0 -ℤ pos q *ℤ a
+held_less_twice q a h g = to_z-of_z (fits_less_twice q a h g)
 
 -- a number of bit i, and bit i times each of two runs
 abbrev pub Parts : ℤ → ℤ → ℤ → ℕ → Run → Run → Formula
@@ -116,6 +132,9 @@ one_hot_factor a run r h = factor_small a ((1 + run.count) * (1 + run.count)) (r
 pub one_hot_parts : (a p q : ℤ) (run : Run) (i t : ℕ) (r : List ℤ) → Room (2 ^ 61) (run_one_hot a run ∷ []) r → nat_abs p ≤ nat_abs a → nat_abs q ≤ 2 * nat_abs a → Room (2 ^ 61) (Parts p q (pos 0) i (later run i t) empty_run) r
 one_hot_parts a p q run i t r h hp hq = parts_room a ((1 + run.count) * (1 + run.count)) (run_one_hot a run) r (one_hot_norm a run.count (run_bit run)) h p q (pos 0) i (later run i t) empty_run hp hq (omega arith) (omega arith)
 
+pub one_hot_second : (q : ℕ) (a : ℤ) (run : Run) (i t : ℕ) (r : List ℤ) → Room (2 ^ 61) (run_one_hot a run ∷ []) r → q ≤ 2 → Room (2 ^ 61) (times (pos q *ℤ a) i (run_sum (later run i t)) ∷ []) (add_terms (single (pos 0 -ℤ a) i ∷ []) i r)
+one_hot_second q a run i t r h g = second_room (pos 0 -ℤ a) (pos q *ℤ a) (pos 0) i (later run i t) empty_run r (one_hot_parts a (pos 0 -ℤ a) (pos q *ℤ a) run i t r h (omega (arith, less_abs a)) (twice_abs q a g))
+
 square_big : (n m t : ℕ) → t < n → 1 + 2 * (n - (t + 1)) + 2 * m ≤ (n + m) * (n + m)
 square_big zero m t h = absurd (omega arith)
 square_big (suc n) m t h = let e : suc n + m ≡ suc (n + m) = omega arith in rw e (omega arith)
@@ -130,6 +149,20 @@ difference_parts a p q s run other i t r n h hp hq hs =
     parts_room a ((run.count + other.count) * (run.count + other.count)) (run_difference a run other) r (difference_norm a run.count (run_bit run) other.count (run_bit other)) h p q s i (later run i t) other hp hq hs
     (square_big run.count other.count t n.below)
 
+module _ (a : ℤ) (run other : Run) (i t : ℕ) (r : List ℤ) (n : IsNumber run i t) (h : Room (2 ^ 61) (run_difference a run other ∷ []) r) where
+  pub difference_first : Room (2 ^ 61) (single a i ∷ []) r
+  difference_first = first_room a (pos 0) (pos 0) i (later run i t) other r (difference_parts a a (pos 0) (pos 0) run other i t r n h (le_refl (nat_abs a)) (omega arith) (omega arith))
+
+  pub difference_second : (q : ℕ) → q ≤ 2 → Room (2 ^ 61) (times (pos q *ℤ a) i (run_sum (later run i t)) ∷ []) (add_terms (single a i ∷ []) i r)
+  difference_second q g = second_room a (pos q *ℤ a) (pos 0) i (later run i t) other r (difference_parts a a (pos q *ℤ a) (pos 0) run other i t r n h (le_refl (nat_abs a)) (twice_abs q a g) (omega arith))
+
+  pub difference_third : (q : ℕ) → q ≤ 2 → Room (2 ^ 61) (times (pos 0 -ℤ pos q *ℤ a) i (run_sum other) ∷ []) (add_terms (times (pos q *ℤ a) i (run_sum (later run i t)) ∷ []) i (add_terms (single a i ∷ []) i r))
+  difference_third q g = third_room a (pos q *ℤ a) (pos 0 -ℤ pos q *ℤ a) i (later run i t) other r (difference_parts a a (pos q *ℤ a) (pos 0 -ℤ pos q *ℤ a) run other i t r n h (le_refl (nat_abs a)) (twice_abs q a g) (less_twice_abs q a g))
+
+-- bit i is in neither of two runs, or in both
+pub difference_cancels : (a : ℤ) (left right : Run) (i : ℕ) (r : List ℤ) (x : ℤ) → coef (run_sum left) i ≡ x → coef (run_sum right) i ≡ x → r ≡ add_terms (run_difference a left right ∷ []) i r
+difference_cancels a left right i r x e d = sym (add_absent (run_difference a left right ∷ []) i r (difference_absent a left right i (e ∙ sym d)))
+
 pub difference_room_swap : (a : ℤ) (left right : Run) (r : List ℤ) → Room (2 ^ 61) (run_difference a left right ∷ []) r → Room (2 ^ 61) (run_difference a right left ∷ []) r
 difference_room_swap a left right r h = record { room = λ k. omega (arith, h.room k, difference_norm a left.count (run_bit left) right.count (run_bit right), difference_norm a right.count (run_bit right) left.count (run_bit left)) }
 
@@ -138,8 +171,7 @@ module _ (v : ℤ) (p q : ℕ) (r : List ℤ) (h : Room (2 ^ 61) (unequal v p q 
   pub unequal_factor : nat_abs v ≤ 2 ^ 61
   unequal_factor = factor_small v 4 (unequal v p q) r (unequal_norm v p q) h (omega arith)
 
-  pub unequal_single : (i : ℕ) → Room (2 ^ 61) (single v i ∷ []) r
-  unequal_single i = record { room = λ k. omega (arith, h.room k, unequal_norm v p q, single_norm v i) }
-
-  pub unequal_pair : (s : ℤ) (i j : ℕ) → nat_abs s ≤ 2 * nat_abs v → Room (2 ^ 61) (pair s i j ∷ []) (add_terms (single v i ∷ []) i r)
-  unequal_pair s i j g = record { room = λ k. omega (arith, h.room k, unequal_norm v p q, added_abs (single v i ∷ []) i r k, single_norm v i, times_norm s i ((j, pos 1) ∷ [])) }
+  pub unequal_pair : (m i j : ℕ) → m ≤ 2 → Room (2 ^ 61) (pair (pos 0 -ℤ pos m *ℤ v) i j ∷ []) (add_terms (single v i ∷ []) i r)
+  unequal_pair m i j g =
+      let s = pos 0 -ℤ pos m *ℤ v in
+      record { room = λ k. omega (arith, h.room k, unequal_norm v p q, added_abs (single v i ∷ []) i r k, single_norm v i, times_norm s i ((j, pos 1) ∷ []), less_twice_abs m v g) }

@@ -1,4 +1,6 @@
 // What a table is made for, of whichever kind.
+// That lent bytes are bits, and so many, stays a clause here and above: most functions cut them into parts, each of which
+// would be a value of its own to be made, with its proof.
 ghost use Rattle.std.specs.Prelude.{◌≡◌, ◌+◌, ◌<◌, ◌≤◌, length};
 ghost use Rattle.qubo.specs.Formula.{Assignment};
 ghost use Rattle.qubo.specs.Table.{constant_of, row_of};

@@ -1,3 +1,5 @@
+// `shared` and `cut`, and what is added up of each, are twins, as the papers' sentences are: one with a closure would have
+// to require that it can be called.
 // What channels and groups share: each meter takes one of 1..n. "Bit (v-1)·n + (i-1) is meter v on channel i."
 use crate::numbers::{self, before, index_of, of_meter};
 use crate::sites::{Link, Site};

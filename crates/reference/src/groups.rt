@@ -31,7 +31,8 @@ fn gaps(groups: Choices<'_>, meters: usize) -> u64 {
         .fold(0, u64::wrapping_add)
 }
 
-/// "A times [the sum over meters of (1 - bits set)² plus the sum over pairs of groups of (size difference)²], plus, for each link and group, the weight if exactly one end is in it."
+/// "A times [the sum over meters of (1 - bits set)² plus the sum over pairs of groups of (size difference)²], plus, for
+/// each link and group, the weight if exactly one end is in it."
 pub fn energy(site: &Site, a: u64, groups: Choices<'_>) -> u64 {
     let meters = site.meters();
     let sums = groups.misses(meters).wrapping_add(gaps(groups, meters));

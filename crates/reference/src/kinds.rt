@@ -14,7 +14,8 @@ pub enum Kind {
 }
 
 impl Kind {
-    /// The kind with a number and a parameter, for so many meters. `None` where 7 refuses it, "kind not 1..3, its parameter outside its limits, or kind 3 with N = 1": "Kind 1, channels, carries n from 1
+    /// The kind with a number and a parameter, for so many meters. `None` where 7 refuses it, "kind not 1..3, its
+    /// parameter outside its limits, or kind 3 with N = 1": "Kind 1, channels, carries n from 1
     /// to 16; kind 2, groups, carries m from 2 to 16; kind 3, tree, carries a neighbour limit d from 1 to 47 and needs N ≥ 2."
     pub fn new(number: u64, parameter: u64, meters: usize) -> Option<Kind> {
         let size = parameter as usize;

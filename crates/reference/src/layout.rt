@@ -1,4 +1,5 @@
-// The bits of trees: "Bits, in order: meter v at depth 0..D (meter by meter); links in chain order, for each arc u to v then v to u, depths 1..D; meter v has exactly j neighbours, j = 1..d."
+// The bits of trees: "Bits, in order: meter v at depth 0..D (meter by meter); links in chain order, for each arc u to v
+// then v to u, depths 1..D; meter v has exactly j neighbours, j = 1..d."
 ghost use Rattle.std.specs.Prelude.{◌^◌, ◌<◌};
 
 use crate::numbers::{before, index_of};

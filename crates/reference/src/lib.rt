@@ -1,4 +1,5 @@
-// A second implementation of the papers' definitions (01, and 02's margin), for sites of 1 to 6 meters: straight from its sentences, by trying everything, with no regard to speed. It is compared with the proved
+// A second implementation of the papers' definitions (01, and 02's margin), for sites of 1 to 6 meters: straight from
+// its sentences, by trying everything, with no regard to speed. It is compared with the proved
 // library over random sites, so it shares no code with it. Its contracts say only what its callers need to be safe.
 // A plan is one byte for each meter. Bits are one byte each.
 #![tactic(auto)]
@@ -97,7 +98,8 @@ impl Site {
         Parents { site: self, list }
     }
 
-    /// A plan's weight: "its clash weight (links with both ends on one channel), its cut weight (each cut link once) or its tree's weight (the links from meters to their parents)".
+    /// A plan's weight: "its clash weight (links with both ends on one channel), its cut weight (each cut link once) or
+    /// its tree's weight (the links from meters to their parents)".
     pub fn weight_of(&self, kind: Kind, plan: &[u8]) -> u64 {
         match kind {
             Kind::Channels(_) => choices::clash_weight(self, plan),
@@ -119,7 +121,8 @@ impl Site {
         Some(bits)
     }
 
-    /// Puts the channels that the bits are mended to into the plan. "The number mended is that of meters without exactly one bit set, counted in the bits lent."
+    /// Puts the channels that the bits are mended to into the plan. "The number mended is that of meters without exactly
+    /// one bit set, counted in the bits lent."
     pub fn mend(&self, n: usize, bits: &[u8], plan: &mut [u8]) -> usize {
         let choices = Choices { n, bits };
         channels::mend(self, choices, plan);

@@ -1,4 +1,6 @@
-// Arithmetic and reads that never fail. The sites compared are small, so nothing wraps for them, and no bit that they have is past the end. Sums are folds by `wrapping_add` throughout: `sum` would want a bound on each number that is added.
+// Arithmetic and reads that never fail. The sites compared are small, so nothing wraps for them, and no bit that they
+// have is past the end. Sums are folds by `wrapping_add` throughout: `sum` would want a bound on each number that is
+// added.
 // One function for them, `total(numbers: impl Iterator<Item = u64>)`, was tried: it would have to require of each caller that the iterator ends.
 ghost use Rattle.std.specs.Prelude.{◌≤◌};
 

@@ -1,4 +1,5 @@
-// Plans of trees: "each meter's parent, 0 for the single root; parents are linked neighbours, nobody has more than d neighbours in the tree, and no depth exceeds D".
+// Plans of trees: "each meter's parent, 0 for the single root; parents are linked neighbours, nobody has more than d
+// neighbours in the tree, and no depth exceeds D".
 use crate::layout::{Arc, Layout};
 use crate::numbers;
 use crate::sites::Site;
@@ -16,7 +17,8 @@ impl Parents<'_> {
         numbers::of_meter(self.list, v).filter(|parent| *parent != 0)
     }
 
-    /// The depth of a meter: "0 at the root and otherwise one more than the parent's". It walks up at most as many steps as there are meters; a walk that goes on is in a ring.
+    /// The depth of a meter: "0 at the root and otherwise one more than the parent's". It walks up at most as many steps
+    /// as there are meters; a walk that goes on is in a ring.
     fn depth(self, v: usize) -> Option<usize> {
         let mut at = v;
         for steps in 0..self.site.meters() {

@@ -38,7 +38,7 @@ impl Link {
 #[derive(Clone, Copy)]
 pub struct Site {
     meters: usize,
-    // Fixed places, so that no heap is needed; the first `count` are taken.
+    // Fixed places, of which the first `count` are taken: a `Vec` would want an allocator in every function that makes one.
     links: [Link; LINKS],
     count: usize,
     ghost few: { count ≤ 15 },

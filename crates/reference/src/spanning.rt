@@ -1,11 +1,12 @@
-// Spanning trees: "any N - 1 of the image's links over which each meter can be reached from every other, with no root or depth asked; it is within the neighbour limit when no meter is an end of more
+// Spanning trees: "any N - 1 of the image's links over which each meter can be reached from every other, with no root or
+// depth asked; it is within the neighbour limit when no meter is an end of more
 // than d of them, and its weight is the sum of theirs".
 use crate::sites::{Link, Site};
 
 /// The meters that have been reached.
 #[derive(Clone, Copy)]
 struct Reached {
-    // Place v is that of meter v, from 1 to 6.
+    // Place v is that of meter v, from 1 to 6: fixed places, as a site has.
     marks: [bool; 7],
 }
 

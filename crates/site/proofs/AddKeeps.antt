@@ -10,13 +10,13 @@ use Rattle.lists.specs.Tests.{all}
 use Rattle.links.specs.Links.{link_ok, low, high, present, insert}
 use Rattle.links.specs.declared.Link.{Link}
 use Rattle.lists.proofs.Tests.{all_tail, all_append, all_cons}
-use Rattle.links.proofs.Altered.{link_ok_fact, insert_all, insert_ascends}
-use Rattle.site.specs.Layout.{SIZE, RECORDS, meters, first, first_free, count, next}
+use Rattle.links.proofs.Altered.{link_tested, insert_all, insert_ascends}
+use Rattle.site.specs.Layout.{meters, first, first_free, count, next}
 use Rattle.site.specs.Image.{free_chain, link_at, links, pad_zero, free_ok, named, times, valid}
 use Rattle.site.specs.Edits.{after, place, add_refusal, add_bytes, add_image}
 use Rattle.site.proofs.Chain.{Linked, named_low, named_high, linked_named, head_once, times_here, times_append, none_of, no_zero, not_head, not_tail}
-use Rattle.site.proofs.Valid.{Good, good_valid, valid_long, valid_free, valid_count, good_links, good_frees, good_pads, apart, all_first, all_second}
-use Rattle.site.proofs.Placed.{after_zero, stands, Stops, linked_first, place_at, place_linked, place_high, place_back, place_free, valid_split, split_good, place_fits}
+use Rattle.site.proofs.Valid.{Good, good_valid, good_links, good_frees, good_pads, apart, all_first, all_second}
+use Rattle.site.proofs.Placed.{after_zero, stands, Stops, linked_first, place_at, place_linked, place_high, place_back, place_free, valid_split, split_good}
 use Rattle.site.proofs.Refused.{done, add_zero, ends_order}
 use Rattle.site.proofs.Stored.{stored, Stored, stored_all, pad_zero_same, free_same}
 use Rattle.site.proofs.Relinked.{linked_keep, relinked, all_of, all_keep, map_keep, map_append, insert_split}
@@ -86,7 +86,7 @@ module _ (s : List ℕ) (a b w r : ℕ) (A B F : List ℕ) (g : Good s (A ++ B) 
   module _ (a_lo : 1 ≤ a) (a-b : a < b) (b_hi : b ≤ meters s) (w-lo : 1 ≤ w) (w-hi : w ≤ 65535) (absent : present a b (map (link_at s) (A ++ B)) ≡ false) where
     new_ok : link_ok (meters s) new ≡ true
     unfolding new
-    new_ok = link_ok_fact (meters s) new (record { u_low = a_lo; ordered = a-b; v_high = b_hi; weight_low = w-lo; weight_high = w-hi })
+    new_ok = link_tested (meters s) new (record { u_low = a_lo; ordered = a-b; v_high = b_hi; weight_low = w-lo; weight_high = w-hi })
 
     add_good : Good s' (A ++ (r ∷ B)) F
     unfolding new
@@ -156,9 +156,3 @@ module _ (s : List ℕ) (a b w : ℕ) (w-hi : w ≤ 65535) (z : add_refusal s a 
   -- "Add takes the first free record", and writes the link there
   pub add_record : (free_chain s ≡ first_free s ∷ free_chain (add_image s a b w)) × (link_at (add_image s a b w) (first_free s) ≡ record { u = low a b; v = high a b; weight = w })
   add_record = (add_all.takes, add_all.writes)
-
--- what the code needs: all numbers that it reads as records are records or 0
-pub add_fits : (s : List ℕ) (a b w : ℕ) → add_refusal s a b w ≡ 0 → (length s ≡ SIZE) × (first_free s ≤ RECORDS) × (count s ≤ RECORDS) × (place s (low a b) (high a b) ≤ RECORDS)
-add_fits s a b w z =
-    let v = (add_zero s a b w z).0 in
-    (valid_long s v, valid_free s v, valid_count s v, place_fits s (low a b) (high a b) v)

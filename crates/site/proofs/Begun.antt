@@ -109,9 +109,9 @@ module _ (z : List ℕ) (z-long : length z ≡ SIZE) (z-zero : (j : ℕ) → byt
   unfolding word
   inside_word k i lo a b o = omega (arith, inside k i lo a (omega arith) (λ x y. o (omega arith) y), inside k (i + 1) lo (omega arith) b (λ x y. o x (omega arith)))
 
-  free_ok_fact : (k : ℕ) → 1 ≤ k → free_ok s k ≡ true
+  each_free : (k : ℕ) → 1 ≤ k → free_ok s k ≡ true
   unfolding free_ok every pad_zero end_u end_v weight pad
-  free_ok_fact k lo = rw (
+  each_free k lo = rw (
     inside k (record_at k) lo (omega arith) (omega arith) (λ x y. omega arith),
     inside k (record_at k + 1) lo (omega arith) (omega arith) (λ x y. omega arith),
     inside_word k (weight_at k) lo (omega arith) (omega arith) (λ x y. omega arith),
@@ -121,7 +121,7 @@ module _ (z : List ℕ) (z-long : length z ≡ SIZE) (z-zero : (j : ℕ) → byt
   frees_ok : (m k : ℕ) → 1 ≤ k → all (free_ok s) (from k m) ≡ true
   unfolding all from
   frees_ok zero k lo = refl
-  frees_ok (suc m) k lo = and_both (free_ok s k) _ (free_ok_fact k lo) (frees_ok m (suc k) (omega arith))
+  frees_ok (suc m) k lo = and_both (free_ok s k) _ (each_free k lo) (frees_ok m (suc k) (omega arith))
 
   next_last : next s RECORDS ≡ 0
   unfolding next word

@@ -1,5 +1,5 @@
 -- The walk of the link chain that stores what it meets and remembers a place, and the copy of what it stored. Assumes nothing.
-use Rattle.std.proofs.Common.{ℕ, suc, ◌+◌, ◌-◌, ◌≤◌, ◌<◌, Bool, true, false, ◌&&◌, cond, ltb, eqb, ◌≡◌, refl, sym, ap, ◌∙◌, List, [], ◌∷◌, ◌++◌, map, append_assoc, append-nil, length, set, take, drop, get_or, length-append, length-set, arith, add-one}
+use Rattle.std.proofs.Common.{ℕ, suc, ◌+◌, ◌-◌, ◌≤◌, ◌<◌, true, ◌&&◌, cond, ltb, eqb, ◌≡◌, refl, sym, ap, ◌∙◌, List, [], ◌∷◌, ◌++◌, map, append_assoc, append-nil, length, set, take, drop, get_or, length-append, length-set, arith, add-one}
 use Rattle.std.proofs.lemmas.List.{take_more_set}
 use Rattle.std.proofs.Math.Seq.{drop-cons, take-append_seam, take-length}
 use lib.ListN.{length-map}
@@ -7,16 +7,16 @@ use lib.Seq.{set_at}
 use native.Mathlib.Nat.{add-zero}
 use Rattle.links.specs.Links.{link_ok}
 use Rattle.links.specs.declared.Link.{Link}
-use Rattle.site.specs.Layout.{SIZE, RECORDS, byte, word, meters_at, count_at, first, first_free, count, next, end_u, end_v}
+use Rattle.site.specs.Layout.{first, count, next, pad, end_u, end_v}
 use Rattle.site.specs.Image.{link_chain, link_at, links, named, valid}
 use Rattle.site.specs.Edits.{place}
 use Rattle.site.specs.Reading.{store_from, over}
-use Rattle.site.specs.Inner.{key, link_fits, walk_links, walk_free, links_on, last_before, head_ok}
+use Rattle.site.specs.Inner.{key, link_fits, walk_links, links_on, last_before}
 use Rattle.site.proofs.Chain.{Linked}
-use Rattle.site.proofs.Walked.{one_less, none_left, link_out, link_bad, link_on, link_end}
+use Rattle.site.proofs.Walked.{one_less, none_left, link_on}
 use Rattle.site.proofs.Valid.{valid_good}
 use Rattle.site.proofs.Placed.{place_walked}
-use Rattle.site.proofs.Turns.{Fields, key_before, link_test, image_test}
+use Rattle.site.proofs.Turns.{key_before, fits_by}
 
 -- ---- arrays
 module _ {A : Type 0} where
@@ -65,7 +65,7 @@ unfolding links_on
 stored_turn s array m k i y l h n e g =
     rw (one_less m i h, g, take_more_set array i l (omega arith), append_assoc (take i array) (l ∷ []) (links_on s (m - (i + 1)) (next s k)), e)
 
-stored_end : (s : List ℕ) (array : List Link) (m k i : ℕ) → m ≤ i → i ≤ m → m ≡ length array → take i array ++ links_on s (m - i) k ≡ array
+pub stored_end : (s : List ℕ) (array : List Link) (m k i : ℕ) → m ≤ i → i ≤ m → m ≡ length array → take i array ++ links_on s (m - i) k ≡ array
 unfolding links_on
 stored_end s array m k i h g n =
     let e : i ≡ length array = omega arith in
@@ -75,13 +75,9 @@ last_turn : (s : List ℕ) (a b m k i p c d x y o : ℕ) → i < m → c ≡ end
 unfolding last_before
 last_turn s a b m k i p c d x y o h e f g l j q r = rw (one_less m i h, q, r, key_before c d a b l j, e, f, g)
 
-last_end : (s : List ℕ) (a b m k i p : ℕ) → m ≤ i → last_before s a b (m - i) k p ≡ p
+pub last_end : (s : List ℕ) (a b m k i p : ℕ) → m ≤ i → last_before s a b (m - i) k p ≡ p
 unfolding last_before
 last_end s a b m k i p h = rw (none_left m i h)
-
--- what the walk of m links tells where it does not fail: the links in the array, and the place
-abbrev pub Stored : List ℕ → ℕ → ℕ → ℕ → ℕ → List Link → ℕ → Type 0
-Stored s n m a b ls p = (walk_links s n m (first s) 0 0 ≡ true) × (ls ≡ links_on s m (first s)) × (p ≡ last_before s a b m (first s) 0)
 
 -- the walk at record k, after i links of m, the last of them with ends c and d, whose key is x: what is left of it decides, gives the links behind those in the array, and goes on from the place p
 pub record Walking (s : List ℕ) (n m a b : ℕ) (ls : List Link) (k x p i : ℕ) : Type 0 where
@@ -99,39 +95,23 @@ walking_start s n m a b ls k e =
     record { c = 0; d = 0; small = omega arith; keyed = refl; tests = rw (z, e); stored = rw (z, e); last = rw (z, e) }
 
 module _ (s : List ℕ) (n m a b : ℕ) (ls : List Link) (k x p i : ℕ) (t : Walking s n m a b ls k x p i) where
-  module _ (h : i < m) where
-    -- it fails at a number that names no record
-    pub walking_out : named k ≡ false → walk_links s n m (first s) 0 0 ≡ false
-    walking_out e = t.tests ∙ link_out s n m i k t.c t.d h e
-
-    -- at a record it goes by the test of the numbers read from it
-    module _ (e : named k ≡ true) (l : Link) (o z : ℕ) {f : Bool} (r : Fields s k l o z) (j : l.v < 256) (g : f ≡ (link_ok n l && (eqb z 0 && ltb x (key l.u l.v)))) where
-      fitting : {q : Bool} → f ≡ q → link_fits s n t.c t.d k ≡ q
-      fitting q = link_test s n t.c t.d x k l o z t.keyed t.small j r g q
-
-      -- it fails where they hold no fitting link
-      pub walking_bad : f ≡ false → walk_links s n m (first s) 0 0 ≡ false
-      walking_bad q = t.tests ∙ link_bad s n m i k t.c t.d h e (fitting q)
-
-      -- else it goes on
-      pub walking_turn : f ≡ true → (x' y' p' : ℕ) → b < 256 → m ≡ length ls → x' ≡ key l.u l.v → y' ≡ key a b → p' ≡ cond (ltb x' y') k p → Walking s n m a b (set ls i l) o x' p' (i + 1)
-      unfolding link_at
-      walking_turn q x' y' p' sb long kx ky kp =
-          let u : l.u ≡ end_u s k = ap (λ (l : Link). l.u) r.0 in
-          let v : l.v ≡ end_v s k = ap (λ (l : Link). l.v) r.0 in
-          record {
-            c = l.u;
-            d = l.v;
-            small = j;
-            keyed = kx;
-            tests = t.tests ∙ link_on s n m i k t.c t.d h e (fitting q) ∙ rw (u, v, r.1);
-            stored = t.stored ∙ stored_turn s ls m k i o l h long r.0 r.1;
-            last = t.last ∙ last_turn s a b m k i p l.u l.v x' y' o h u v r.1 j sb kx ky ∙ rw kp;
-          }
-
-  -- all links met
-  pub walking_ended : m ≤ i → i ≤ m → m ≡ length ls → (walk_links s n m (first s) 0 0 ≡ eqb k 0) × (ls ≡ links_on s m (first s)) × (p ≡ last_before s a b m (first s) 0)
-  walking_ended h g long = (t.tests ∙ link_end s n m i k t.c t.d h, sym (t.stored ∙ stored_end s ls m k i h g long), sym (t.last ∙ last_end s a b m k i p h))
+  -- it goes on at a record that holds a fitting link
+  pub walking_turn : i < m → named k ≡ true → (link_at s k).v < 256 → (link_ok n (link_at s k) && (eqb (pad s k) 0 && ltb x (key (link_at s k).u (link_at s k).v))) ≡ true
+      → (l : Link) (o x' y' p' : ℕ) → l ≡ link_at s k → o ≡ next s k → b < 256 → m ≡ length ls → x' ≡ key l.u l.v → y' ≡ key a b → p' ≡ cond (ltb x' y') k p → Walking s n m a b (set ls i l) o x' p' (i + 1)
+  unfolding link_at
+  walking_turn h e j f l o x' y' p' g r sb long kx ky kp =
+      let u : l.u ≡ end_u s k = ap (λ (l : Link). l.u) g in
+      let v : l.v ≡ end_v s k = ap (λ (l : Link). l.v) g in
+      let fit : link_fits s n t.c t.d k ≡ true = fits_by s n t.c t.d k t.small j ∙ rw (← t.keyed) f in
+      record {
+        c = l.u;
+        d = l.v;
+        small = rw v j;
+        keyed = kx;
+        tests = t.tests ∙ link_on s n m i k t.c t.d h e fit ∙ rw (u, v, r);
+        stored = t.stored ∙ stored_turn s ls m k i o l h long g r;
+        last = t.last ∙ last_turn s a b m k i p l.u l.v x' y' o h u v r (rw v j) sb kx ky ∙ rw kp;
+      }
 
 -- ---- what the array of a valid image holds
 
@@ -146,20 +126,11 @@ pub count_links : (s : List ℕ) → valid s ≡ true → count s ≡ length (li
 unfolding links
 count_links s e = sym (length-map (link_chain s) (link_at s) ∙ (valid_good s e).counted)
 
--- ---- src/rules.rt, read_image: where it ends
+-- in the count's places stand its links
+pub image_links : (s : List ℕ) → valid s ≡ true → links_on s (count s) (first s) ≡ links s
+unfolding links
+image_links s e = let g = valid_good s e in rw (← g.counted) (on_linked s (link_chain s) (first s) g.links)
 
--- the two walks tell, and the array holds the links of an image
-module _ (s : List ℕ) (n m a b : ℕ) (l : length s ≡ SIZE) (h : head_ok s ≡ true) (e : m ≡ word s count_at) (k : m ≤ RECORDS) (f : n ≡ byte s meters_at) where
-  pub image_bad : {j : ℕ} → walk_links s n j (first s) 0 0 ≡ false → j ≡ m → valid s ≡ false
-  image_bad w q = sym (image_test s n m l h e k f (sym (rw q at w)) refl refl)
-
-  module _ {j : ℕ} {ls : List Link} {p : ℕ} (t : Stored s n j a b ls p) (q : j ≡ m) where
-    pub image_told : {y : Bool} → y ≡ walk_free s (RECORDS - m) (first_free s) → y ≡ valid s
-    image_told g = image_test s n m l h e k f (sym (rw q at t.0)) g refl
-
-    pub image_read : valid s ≡ true → (ls ≡ links s) × (m ≡ length (links s)) × (p ≡ place s a b)
-    unfolding links count
-    image_read v =
-        let g = valid_good s v in
-        let c : j ≡ length (link_chain s) = q ∙ e ∙ sym g.counted in
-        (t.1 ∙ rw c (on_linked s (link_chain s) (first s) g.links), e ∙ count_links s v, t.2 ∙ place_walked s a b v j c)
+-- and the place that the walk remembers is that of the ends
+pub image_place : (s : List ℕ) (a b : ℕ) → valid s ≡ true → last_before s a b (count s) (first s) 0 ≡ place s a b
+image_place s a b e = place_walked s a b e (count s) (sym (valid_good s e).counted)

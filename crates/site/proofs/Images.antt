@@ -5,7 +5,7 @@ use mathlib.Core.Path.{◌≡◌, refl, sym, ap, ◌∙◌, subst}
 use mathlib.Core.List.{List, [], ◌∷◌}
 use lib.ListN.{length, take}
 use lib.Dec.{eqb}
-use borrow.Author.Tests.{eq-eqb, not-false}
+use borrow.Author.Tests.{eq-eqb, ne_eqb, not-false}
 use native.Mathlib.Omega.{arith}
 use Rattle.links.specs.Links.{has_ends, low, high, present, weight_of, insert, delete, bad_ends}
 use Rattle.links.specs.declared.Link.{Link}
@@ -15,13 +15,13 @@ use Rattle.site.specs.Layout.{RECORDS, meters, first_free}
 use Rattle.site.specs.Image.{link_at, links, valid, free_chain}
 use Rattle.site.specs.Edits.{place, after, check_refusal, begin_refusal, begin_image, add_refusal, add_image, remove_refusal, remove_image}
 use Rattle.site.specs.Reading.{read_meters, read_links, over}
-use Rattle.site.proofs.Refused.{kept, refusal_none, add_zero, remove_zero}
+use Rattle.site.proofs.Refused.{kept, refusal_none, find_number, add_zero, add_number, remove_zero, remove_number}
 use Rattle.site.proofs.Valid.{valid_good, links_survey}
 use Rattle.site.proofs.AddKeeps.{add_valid, add_links, add_meters, add_record}
 use Rattle.site.proofs.RemoveKeeps.{remove_valid, remove_links, remove_meters, remove_record}
 use Rattle.site.proofs.Chain.{Linked, named_low}
 use Rattle.site.proofs.Filling.{length_over, take_over}
-use Rattle.site.proofs.Calls.{find_none, add_accepts, remove_accepts, read_all, meters_all}
+use Rattle.site.proofs.Calls.{read_meters_told, read_links_told}
 
 -- ---- a refused call alters nothing
 
@@ -95,7 +95,7 @@ add_after_remove s a b w e f =
     let k = weight_within (meters s) (low a b) (high a b) (links s) v.each z.2 in
     let absent : present (low a b) (high a b) (links t) ≡ false = ap (present (low a b) (high a b)) (remove_links s a b e) ∙ delete_present (low a b) (high a b) (links s) (low a b) (high a b) v.rises ∙ rw (same_ends (low a b) (high a b)) in
     let ends : bad_ends (meters t) a b ≡ false = ap (λ (n : ℕ). bad_ends n a b) (remove_meters s a b e) ∙ z.1 in
-    let accepted = add_accepts t a b w (sym (find_none t a b (remove_valid s a b e) ends)) (λ q. omega (arith, f, k)) absent (some_free s a b e) in
+    let accepted : add_refusal t a b w ≡ 0 = add_number t a b w ∙ rw (find_number t a b, remove_valid s a b e, ends, ne_eqb w 0 (λ q. omega (arith, f, k)), absent, ne_eqb (first_free t) 0 (some_free s a b e)) in
     let l : Link = record { u = low a b; v = high a b; weight = w } in
     (accepted, add_links t a b w (omega (arith, f, k)) accepted ∙ ap (insert l) (remove_links s a b e) ∙ insert_delete l (links s) v.rises z.2 (sym f))
 
@@ -109,7 +109,7 @@ remove_after_add s a b w h e =
     let l : Link = record { u = low a b; v = high a b; weight = w } in
     let there : present (low a b) (high a b) (links t) ≡ true = ap (present (low a b) (high a b)) (add_links s a b w h e) ∙ insert_present l (links s) (low a b) (high a b) ∙ rw (same_ends (low a b) (high a b)) in
     let ends : bad_ends (meters t) a b ≡ false = ap (λ (n : ℕ). bad_ends n a b) (add_meters s a b w h e) ∙ z.1 in
-    let accepted = remove_accepts t a b (sym (find_none t a b (add_valid s a b w h e) ends)) there in
+    let accepted : remove_refusal t a b ≡ 0 = remove_number t a b ∙ rw (find_number t a b, add_valid s a b w h e, ends, there) in
     (accepted, remove_links t a b accepted ∙ ap (delete (low a b) (high a b)) (add_links s a b w h e) ∙ delete_insert l (links s) z.3)
 
 -- ---- what read hands to the kinds
@@ -132,9 +132,9 @@ pub read_out : (s : List ℕ) (ls₀ ls : List Link) (m n : ℕ) → check_refus
 read_out s ls₀ ls m n z em en el long =
     let e = check_valid s z in
     let v = links_survey s e in
-    let r : read_links s ≡ links s = sym (read_all s e) in
+    let r : read_links s ≡ links s = read_links_told s ∙ rw e in
     let k : n ≡ length (links s) = en ∙ ap length r in
-    let q : m ≡ meters s = em ∙ sym (meters_all s e) in
+    let q : m ≡ meters s = em ∙ read_meters_told s ∙ rw e in
     let t : take n ls ≡ links s = rw (el, r) (take_over (links s) ls₀ n k (omega (arith, long, v.few))) in
     record { is_valid = e; is_meters = q; room = rw el (omega (arith, length_over (read_links s) ls₀, long, k, v.few)); survey = rw (q, t) v; are = t }
 

@@ -13,3 +13,4 @@ pub mod Turns
 pub mod Filling
 pub mod Calls
 pub mod Images
+pub mod Sets

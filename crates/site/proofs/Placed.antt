@@ -12,14 +12,14 @@ use Rattle.links.specs.Links.{before, has_ends, ascending_from, ascending, prese
 use Rattle.links.specs.declared.Link.{Link}
 use Rattle.lists.proofs.Tests.{and_left, and_right, and_both}
 use Rattle.links.proofs.Order.{before_true, before_yes, before_trans, before_irrefl, before_else}
-use Rattle.links.proofs.Altered.{ends_no, ends_not, rises_ascends, rises_sooner, rises_none}
-use Rattle.site.specs.Layout.{RECORDS, first, first_free, next, end_u, end_v}
+use Rattle.links.proofs.Altered.{ends_no, ends_not, rises_ascends, rises_sooner, rises_none, delete_length}
+use Rattle.site.specs.Layout.{RECORDS, first, first_free, count, next, end_u, end_v}
 use Rattle.site.specs.Image.{link_chain, free_chain, link_at, links, named, times, valid}
 use Rattle.site.specs.Edits.{slot, after, goes_on, place_from, place}
-use Rattle.site.specs.Inner.{last_before, is_link, at_place}
+use Rattle.site.specs.Inner.{last_before, is_link}
 use Rattle.site.proofs.Chain.{Linked, named_low, named_high, linked_named, linked_once, times_cons, times_here, times_append, none_of, no_zero}
 use Rattle.site.proofs.Walked.{named_no}
-use Rattle.site.proofs.Valid.{Good, valid_good, apart, all_first, all_second}
+use Rattle.site.proofs.Valid.{Good, valid_good, apart, all_first, all_second, links_length}
 
 -- ---- what follows a record
 
@@ -57,14 +57,14 @@ module _ (s : List ℕ) (a b : ℕ) where
   place_go f p e = rw e
 
   -- a number that names no record holds no link
-  pub link_out : (q : ℕ) → named q ≡ false → is_link s a b q ≡ false
+  pub no_link : (q : ℕ) → named q ≡ false → is_link s a b q ≡ false
   unfolding is_link
-  link_out q e = rw e
+  no_link q e = rw e
 
   -- a record holds the link with its ends
-  pub link_in_fact : (q : ℕ) → named q ≡ true → is_link s a b q ≡ has_ends a b (link_at s q)
+  pub link_by_ends : (q : ℕ) → named q ≡ true → is_link s a b q ≡ has_ends a b (link_at s q)
   unfolding is_link
-  link_in_fact q e = rw e
+  link_by_ends q e = rw e
 
 -- ---- the chain split at the place: in front the records that stand before (a, b), and behind them one that does not
 
@@ -146,8 +146,8 @@ module _ (s : List ℕ) (a b : ℕ) where
   -- the first record behind the place tells
   found : (B : List ℕ) (q : ℕ) → Stops s a b B → Linked s q B → ascending (map (link_at s) B) ≡ true → is_link s a b q ≡ present a b (map (link_at s) B)
   unfolding present any ascending stands link_at
-  found [] q t h e = link_out s a b q (named_no q (omega (arith, h)))
-  found (x ∷ B) q t h e = rw h.0 (link_in_fact s a b x h.1 ∙ go (has_ends a b (link_at s x)) refl)
+  found [] q t h e = no_link s a b q (named_no q (omega (arith, h)))
+  found (x ∷ B) q t h e = rw h.0 (link_by_ends s a b x h.1 ∙ go (has_ends a b (link_at s x)) refl)
     where
       go : (i : Bool) → has_ends a b (link_at s x) ≡ i → has_ends a b (link_at s x) ≡ (has_ends a b (link_at s x) || any (has_ends a b) (map (link_at s) B))
       go true c = rw c
@@ -210,8 +210,7 @@ module _ (s : List ℕ) (a b : ℕ) (A B F : List ℕ) (g : Good s (A ++ B) F) (
   place_last_before : last_before s a b (length (A ++ B)) (first s) 0 ≡ place s a b
   place_last_before = last_front s a b A B (first s) 0 e t (rises_back (link_at s) A B g.links_rise) g.links ∙ sym place_at
 
-  place_tells : at_place s a b ≡ present a b (map (link_at s) (A ++ B))
-  unfolding at_place
+  place_tells : is_link s a b (after s (place s a b)) ≡ present a b (map (link_at s) (A ++ B))
   place_tells = found s a b B (after s (place s a b)) t place_linked (rises_back (link_at s) A B g.links_rise) ∙ sym (present_back s a b A B e)
 
   names : all named (A ++ B) ≡ true
@@ -240,9 +239,21 @@ module _ (s : List ℕ) (a b : ℕ) (e : valid s ≡ true) where
   split_good = subst (λ (L : List ℕ). Good s L (free_chain s)) valid_split.joined (valid_good s e)
 
   -- the record at the place of (a, b) tells whether the link is there
-  pub at_place_fact : at_place s a b ≡ present a b (links s)
+  pub place_shows : is_link s a b (after s (place s a b)) ≡ present a b (links s)
   unfolding links
-  at_place_fact = rw valid_split.joined (place_tells s a b valid_split.front valid_split.back (free_chain s) split_good valid_split.stand valid_split.stops)
+  place_shows = rw valid_split.joined (place_tells s a b valid_split.front valid_split.back (free_chain s) split_good valid_split.stand valid_split.stops)
+
+  -- where it is, that is one of the records
+  pub present_named : present a b (links s) ≡ true → named (after s (place s a b)) ≡ true
+  unfolding is_link
+  present_named p = and_left (named (after s (place s a b))) _ (place_shows ∙ p)
+
+  pub present_after : present a b (links s) ≡ true → after s (place s a b) ≤ RECORDS
+  present_after p = named_high _ (present_named p)
+
+  -- and the count has it
+  pub present_counted : present a b (links s) ≡ true → 1 ≤ count s
+  present_counted p = omega (arith, delete_length a b (links s) p, links_length s e, (valid_good s e).counted)
 
   -- the place is a record or 0
   pub place_fits : place s a b ≤ RECORDS

@@ -1,8 +1,9 @@
 -- Laws of refusals: which number is given, and what is left then. Assumes nothing.
 use Prim.Native.Nat.{ℕ, suc, ◌≤◌, ◌<◌}
-use mathlib.Core.Bool.{Bool, true, false, ◌||◌, cond}
+use mathlib.Core.Bool.{Bool, true, false, not, ◌||◌, cond}
 use mathlib.Core.Path.{◌≡◌, refl}
 use mathlib.Core.List.{List, [], ◌∷◌}
+use lib.ListN.{length}
 use lib.Dec.{eqb, ltb}
 use borrow.Author.Tests.{eq-eqb, ne_eqb, eqb-false, ltb-true, ltb-false, not-false}
 use native.Mathlib.Omega.{arith}
@@ -10,10 +11,11 @@ use native.Mathlib.Nat.{suc-ne-zero}
 use Rattle.lists.specs.Tests.{some}
 use Rattle.links.specs.Links.{bad_ends, low, high, present}
 use Rattle.lists.proofs.Tests.{or_left, or_right}
-use Rattle.site.specs.Layout.{meters, first_free}
+use Rattle.site.specs.Layout.{SIZE, METERS, meters, first_free}
 use Rattle.site.specs.Image.{links, valid}
 use Rattle.site.specs.Refusal.{refusal, unless_refused}
-use Rattle.site.specs.Edits.{add_refusal, remove_refusal}
+use Rattle.site.specs.Edits.{check_refusal, begin_bytes, begin_refusal, begin_image, add_bytes, add_refusal, add_image, remove_bytes, remove_refusal, remove_image}
+use Rattle.site.specs.Inner.{find_refusal}
 
 -- the first that applies is given
 pub refusal_here : (n : ℕ) (t : Bool) (xs : List (ℕ × Bool)) → t ≡ true → refusal ((n, t) ∷ xs) ≡ n
@@ -100,3 +102,47 @@ ends_order n a b e = go (ltb a b) refl
     go : (t : Bool) → ltb a b ≡ t → (1 ≤ cond (ltb a b) a b) × (cond (ltb a b) a b < cond (ltb a b) b a) × (cond (ltb a b) b a ≤ n)
     go true q = let l = ltb-true a b q in rw q (omega (arith, a_lo), l, b_hi)
     go false q = let l = ltb-false a b q in rw q (omega (arith, b_lo), omega (arith, apart), a_hi)
+
+-- ---- what each call tells and leaves, by its tests
+
+pub check_number : (s : List ℕ) → check_refusal s ≡ cond (not (valid s)) 1 0
+unfolding check_refusal refusal
+check_number s = refl
+
+module _ (s : List ℕ) (n : ℕ) where
+  pub begin_number : begin_refusal s n ≡ cond (not (eqb (length s) SIZE)) 1 (cond (ltb n 1 || ltb METERS n) 7 0)
+  unfolding begin_refusal refusal
+  begin_number = refl
+
+  pub begin_leaves : begin_image s n ≡ cond (eqb (begin_refusal s n) 0) (begin_bytes n) s
+  unfolding begin_image unless_refused
+  begin_leaves = refl
+
+-- what add and remove refuse alike
+pub find_number : (s : List ℕ) (a b : ℕ) → find_refusal s a b ≡ cond (not (valid s)) 1 (cond (bad_ends (meters s) a b) 2 0)
+unfolding find_refusal refusal
+find_number s a b = refl
+
+-- and each of them then by itself
+shared : (p q : Bool) (n : ℕ) → cond p 1 (cond q 2 n) ≡ cond (eqb (cond p 1 (cond q 2 0)) 0) n (cond p 1 (cond q 2 0))
+shared true q n = refl
+shared false true n = refl
+shared false false n = refl
+
+module _ (s : List ℕ) (a b w : ℕ) where
+  pub add_number : add_refusal s a b w ≡ cond (eqb (find_refusal s a b) 0) (cond (eqb w 0) 3 (cond (present (low a b) (high a b) (links s)) 4 (cond (eqb (first_free s) 0) 6 0))) (find_refusal s a b)
+  unfolding add_refusal find_refusal refusal
+  add_number = shared (not (valid s)) (bad_ends (meters s) a b) _
+
+  pub add_leaves : add_image s a b w ≡ cond (eqb (add_refusal s a b w) 0) (add_bytes s (low a b) (high a b) w) s
+  unfolding add_image unless_refused
+  add_leaves = refl
+
+module _ (s : List ℕ) (a b : ℕ) where
+  pub remove_number : remove_refusal s a b ≡ cond (eqb (find_refusal s a b) 0) (cond (not (present (low a b) (high a b) (links s))) 5 0) (find_refusal s a b)
+  unfolding remove_refusal find_refusal refusal
+  remove_number = shared (not (valid s)) (bad_ends (meters s) a b) _
+
+  pub remove_leaves : remove_image s a b ≡ cond (eqb (remove_refusal s a b) 0) (remove_bytes s (low a b) (high a b)) s
+  unfolding remove_image unless_refused
+  remove_leaves = refl

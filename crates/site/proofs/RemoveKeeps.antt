@@ -8,14 +8,14 @@ use native.Mathlib.Omega.{arith}
 use Rattle.lists.specs.Tests.{all}
 use Rattle.links.specs.Links.{link_ok, has_ends, low, high, delete}
 use Rattle.lists.proofs.Tests.{and_left, and_right, all_append, all_cons, all_tail}
-use Rattle.links.proofs.Altered.{delete_all, delete_length, delete_ascends}
-use Rattle.site.specs.Layout.{SIZE, RECORDS, meters, first, first_free, count, next}
+use Rattle.links.proofs.Altered.{delete_all, delete_ascends}
+use Rattle.site.specs.Layout.{meters, first, first_free, count, next}
 use Rattle.site.specs.Image.{link_chain, free_chain, link_at, links, pad_zero, free_ok, named, times, valid}
 use Rattle.site.specs.Edits.{after, place, remove_refusal, remove_bytes, remove_image}
-use Rattle.site.specs.Inner.{is_link, at_place}
+use Rattle.site.specs.Inner.{is_link}
 use Rattle.site.proofs.Chain.{Linked, named_low, named_high, linked_named, linked_once, times_here, times_append, none_of, no_zero, not_head, not_tail}
-use Rattle.site.proofs.Valid.{Good, good_valid, valid_long, valid_good, links_length, good_links, good_frees, good_pads, apart, all_first, all_second}
-use Rattle.site.proofs.Placed.{after_zero, stands, Stops, linked_first, place_at, place_linked, place_high, place_back, place_free, valid_split, split_good, at_place_fact, place_fits}
+use Rattle.site.proofs.Valid.{Good, good_valid, good_links, good_frees, good_pads, apart, all_first, all_second}
+use Rattle.site.proofs.Placed.{after_zero, stands, Stops, linked_first, place_at, place_linked, place_high, place_back, place_free, valid_split, split_good, place_shows}
 use Rattle.site.proofs.Refused.{done, remove_zero}
 use Rattle.site.proofs.Stored.{stored, Stored, stored_all, pad_zero_same, free_same, free_written}
 use Rattle.site.proofs.Relinked.{linked_keep, relinked, all_of, all_keep, map_keep, delete_split}
@@ -133,8 +133,8 @@ module _ (s : List ℕ) (a b : ℕ) where
 
 module _ (s : List ℕ) (a b : ℕ) (z : remove_refusal s a b ≡ 0) where
   found : (named (after s (place s (low a b) (high a b))) && has_ends (low a b) (high a b) (link_at s (after s (place s (low a b) (high a b))))) ≡ true
-  unfolding at_place is_link
-  found = let f = remove_zero s a b z in at_place_fact s (low a b) (high a b) f.0 ∙ f.2
+  unfolding is_link
+  found = let f = remove_zero s a b z in place_shows s (low a b) (high a b) f.0 ∙ f.2
 
   found_named : named (after s (place s (low a b) (high a b))) ≡ true
   found_named = and_left (named (after s (place s (low a b) (high a b)))) _ found
@@ -165,10 +165,3 @@ module _ (s : List ℕ) (a b : ℕ) (z : remove_refusal s a b ≡ 0) where
       × (1 ≤ times (after s (place s (low a b) (high a b))) (link_chain s))
       × (free_chain (remove_image s a b) ≡ after s (place s (low a b) (high a b)) ∷ free_chain s)
   remove_record = (remove_all.names_it, remove_all.was_there, remove_all.gives)
-
-  -- what the code needs: all numbers that it reads as records are records or 0, and the count can be lowered
-  pub remove_fits : (length s ≡ SIZE) × (after s (place s (low a b) (high a b)) ≤ RECORDS) × (1 ≤ count s) × (place s (low a b) (high a b) ≤ RECORDS)
-  remove_fits =
-      let f = remove_zero s a b z in
-      let n = delete_length (low a b) (high a b) (links s) f.2 in
-      (valid_long s f.0, named_high _ found_named, omega (arith, n, links_length s f.0, (valid_good s f.0).counted), place_fits s (low a b) (high a b) f.0)

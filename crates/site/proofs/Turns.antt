@@ -1,9 +1,9 @@
 -- Laws that only the proofs of src/ cite: what a turn of a loop or a test leaves. Assumes nothing.
 use Prim.Native.Nat.{ℕ, zero, suc, ◌+◌, ◌-◌, ◌≤◌, ◌<◌}
 use mathlib.Core.Bool.{Bool, true, false, ◌&&◌, ◌||◌}
-use mathlib.Core.Path.{◌≡◌, refl, sym, ◌∙◌}
+use mathlib.Core.Path.{◌≡◌, refl, ◌∙◌}
 use mathlib.Core.List.{List}
-use lib.ListN.{length, get_or, set, take, drop}
+use lib.ListN.{length, get_or, take, drop}
 use lib.Seq.{drop-cons}
 use lib.Dec.{leb, ltb, eqb}
 use Rattle.std.specs.List.{list_all}
@@ -15,33 +15,44 @@ use Rattle.links.specs.Links.{link_ok, before, has_ends, bad_ends}
 use Rattle.std.proofs.Math.Bool.{and_assoc}
 use Rattle.lists.proofs.Tests.{and_true, same_test}
 use Rattle.links.proofs.Order.{Before, less, tied, before_true, before_yes}
-use Rattle.site.specs.Layout.{SIZE, RECORDS, METERS, meters_at, record_at, meters, first, free_at, count_at, first_free, count, set_word, set_record, byte, word, end_u, end_v, weight, next, pad}
-use Rattle.site.specs.Image.{zero_at, link_at, pad_zero, free_ok, named, valid}
-use Rattle.site.specs.Inner.{key, link_fits, is_link, head_ok, walk_links, walk_free}
-use Rattle.site.proofs.Walked.{checks_walks}
-use Rattle.site.proofs.Valid.{valid_checks}
-use Rattle.site.specs.Edits.{after, slot, place, chained, add_bytes, remove_bytes}
+use Rattle.site.specs.Layout.{SIZE, METERS, meters_at, record_at, meters, first, first_at, free_at, count_at, first_free, count, set_word, byte, word, end_u, end_v, weight, next, pad}
+use Rattle.site.specs.Image.{zero_at, link_at, pad_zero, free_ok, named}
+use Rattle.site.specs.Inner.{key, link_fits, is_link, head_ok}
+use Rattle.site.specs.Edits.{slot, chained}
 
 -- ---- src/fields.rt
 
--- a link and the numbers x and z are those of record k
-abbrev pub Fields : List ℕ → ℕ → Link → ℕ → ℕ → Type 0
-Fields s k l x z = (l ≡ link_at s k) × (x ≡ next s k) × (z ≡ pad s k)
+-- the header, as the code reads it
+module _ (s : List ℕ) where
+  pub meters_read : get_or s meters_at 0 ≡ meters s
+  unfolding meters byte
+  meters_read = refl
 
--- the fields of a record, read where they stand
-pub fields_read : (s : List ℕ) (k i w x z : ℕ) → i ≡ record_at k → w ≡ word s (i + 2) → x ≡ word s (i + 4) → z ≡ word s (i + 6) → Fields s k (record { u = get_or s i 0; v = get_or s (i + 1) 0; weight = w }) x z
-unfolding link_at end_u end_v weight next pad byte
-fields_read s k i w x z e f g h = (rw (f, e), g ∙ rw e, h ∙ rw e)
+  pub first_read : word s first_at ≡ first s
+  unfolding first
+  first_read = refl
 
--- the stores of a record, one after the other
-pub record_steps : (s s₁ s₂ : List ℕ) (k i a b w x : ℕ) → i ≡ record_at k → s₁ ≡ set_word (set (set s i a) (i + 1) b) (i + 2) w → s₂ ≡ set_word s₁ (i + 4) x → s₂ ≡ set_record s k a b w x
-unfolding set_record
-record_steps s s₁ s₂ k i a b w x e f g = g ∙ rw (f, e)
+  pub free_read : word s free_at ≡ first_free s
+  unfolding first_free
+  free_read = refl
 
--- the record after p, read by way of its slot
-pub after_read : (s : List ℕ) (p i q : ℕ) → i ≡ slot p → q ≡ word s i → q ≡ after s p
-unfolding after
-after_read s p i q e f = f ∙ rw e
+  pub count_read : word s count_at ≡ count s
+  unfolding count
+  count_read = refl
+
+-- a record, as the code reads it
+module _ (s : List ℕ) (k : ℕ) where
+  pub link_read : link_at s k ≡ record { u = get_or s (record_at k) 0; v = get_or s (record_at k + 1) 0; weight = word s (record_at k + 2) }
+  unfolding link_at end_u end_v weight byte
+  link_read = refl
+
+  pub next_read : next s k ≡ word s (record_at k + 4)
+  unfolding next
+  next_read = refl
+
+  pub pad_read : pad s k ≡ word s (record_at k + 6)
+  unfolding pad
+  pad_read = refl
 
 -- ---- src/rules.rt
 
@@ -85,22 +96,15 @@ pub fits_test : (n x : ℕ) (l : Link) (z y : ℕ) → l.weight < 65536 → y �
     → (((((leb 1 l.u && ltb l.u l.v) && leb l.v n) && leb 1 l.weight) && eqb z 0) && ltb x y) ≡ (link_ok n l && (eqb z 0 && ltb x (key l.u l.v)))
 fits_test n x l z y h k = and_six (leb 1 l.u) (ltb l.u l.v) (leb l.v n) (leb 1 l.weight) (eqb z 0) (ltb x y) ∙ rw (two_bytes n l h, k)
 
--- the same of the record that was read, after the link with ends c and d
-pub link_test : (s : List ℕ) (n c d y k : ℕ) (l : Link) (x z : ℕ) → {t v : Bool} → y ≡ key c d → d < 256 → l.v < 256 → Fields s k l x z → t ≡ (link_ok n l && (eqb z 0 && ltb y (key l.u l.v))) → t ≡ v → link_fits s n c d k ≡ v
+-- the same of a record of the image, after the link with ends c and d
+pub fits_by : (s : List ℕ) (n c d k : ℕ) → d < 256 → (link_at s k).v < 256 → link_fits s n c d k ≡ (link_ok n (link_at s k) && (eqb (pad s k) 0 && ltb (key c d) (key (link_at s k).u (link_at s k).v)))
 unfolding link_fits link_at pad_zero
-link_test s n c d y k l x z o i j f e g =
-    let v : end_v s k < 256 = rw f.0 at j in
-    rw (← key_before c d (end_u s k) (end_v s k) i v, ← o) (sym (e ∙ rw (f.0, f.2)) ∙ g)
+fits_by s n c d k h l = rw (key_before c d (end_u s k) (end_v s k) h l)
 
--- a free record, by the tests of the record that was read
-pub free_test : (s : List ℕ) (k : ℕ) (l : Link) (x z : ℕ) → {t v : Bool} → Fields s k l x z → t ≡ (eqb l.u 0 && (eqb l.v 0 && (eqb l.weight 0 && eqb z 0))) → t ≡ v → free_ok s k ≡ v
+-- a free record, by its tests
+pub free_by : (s : List ℕ) (k : ℕ) → free_ok s k ≡ (eqb (link_at s k).u 0 && (eqb (link_at s k).v 0 && (eqb (link_at s k).weight 0 && eqb (pad s k) 0)))
 unfolding free_ok every pad_zero link_at
-free_test s k l x z f e g = rw (and_true (eqb (pad s k) 0)) (sym (e ∙ rw (f.0, f.2)) ∙ g)
-
--- the whole image, by its walks
-pub image_test : (s : List ℕ) (n m : ℕ) {x y t : Bool} → length s ≡ SIZE → head_ok s ≡ true → m ≡ word s count_at → m ≤ RECORDS → n ≡ byte s meters_at → x ≡ walk_links s n m (first s) 0 0 → y ≡ walk_free s (RECORDS - m) (first_free s) → t ≡ (x && y) → t ≡ valid s
-unfolding count meters
-image_test s n m l h e k f g j q = q ∙ rw (g, j, e, f) (sym (checks_walks s l h (omega (arith, e, k))) ∙ valid_checks s)
+free_by s k = rw (and_true (eqb (pad s k) 0)) refl
 
 -- ---- src/edits.rt
 
@@ -129,24 +133,3 @@ or_five false false false false false = refl
 pub ends_test : (n a b : ℕ) → ((((eqb a 0 || ltb n a) || eqb b 0) || ltb n b) || eqb a b) ≡ bad_ends n a b
 unfolding bad_ends some
 ends_test n a b = or_five (eqb a 0) (ltb n a) (eqb b 0) (ltb n b) (eqb a b)
-
--- the record at the place
-pub at_found : (s : List ℕ) (u v p k : ℕ) → p ≡ place s u v → k ≡ after s p → k ≡ after s (place s u v)
-at_found s u v p k a b = b ∙ rw a
-
--- the stores of add and remove, one after the other
-pub relink_steps : (s s₁ s₂ s₃ s₄ : List ℕ) (f c k a b w x p i y : ℕ) → s₁ ≡ set_word s free_at f → s₂ ≡ set_word s₁ count_at c → s₃ ≡ set_record s₂ k a b w x → i ≡ slot p → s₄ ≡ set_word s₃ i y
-    → s₄ ≡ set_word (set_record (set_word (set_word s free_at f) count_at c) k a b w x) (slot p) y
-relink_steps s s₁ s₂ s₃ s₄ f c k a b w x p i y d e g h j = j ∙ rw (g, e, d, h)
-
--- with what add read before
-pub add_steps : (s t : List ℕ) (u v w k n p x q : ℕ) → k ≡ word s free_at → n ≡ word s count_at → p ≡ place s u v → x ≡ next s k → q ≡ after s p
-    → t ≡ set_word (set_record (set_word (set_word s free_at x) count_at (n + 1)) k u v w q) (slot p) k → t ≡ add_bytes s u v w
-unfolding add_bytes first_free count
-add_steps s t u v w k n p x q a b c d e f = f ∙ rw (d, e, c, b, a)
-
--- with what remove read before
-pub remove_steps : (s t : List ℕ) (u v k n p x f : ℕ) → f ≡ word s free_at → n ≡ word s count_at → p ≡ place s u v → k ≡ after s p → x ≡ next s k
-    → t ≡ set_word (set_record (set_word (set_word s free_at k) count_at (n - 1)) k 0 0 0 f) (slot p) x → t ≡ remove_bytes s u v
-unfolding remove_bytes first_free count
-remove_steps s t u v k n p x f a b c d e g = g ∙ rw (e, d, c, b, a)

@@ -11,7 +11,7 @@ use Rattle.lists.specs.Tests.{every, all, from}
 use Rattle.links.specs.Links.{link_ok, before, ascending_from, ascending}
 use Rattle.links.specs.Survey.{IsSurvey}
 use Rattle.lists.proofs.Tests.{and_left, and_right, and_both, same_test, every_at, all_head, all_tail, all_cons, all_append}
-use Rattle.links.proofs.Altered.{ascending_from_fact, link_of}
+use Rattle.links.proofs.Altered.{ascending_from_zero, link_of}
 use Rattle.site.specs.Layout.{SIZE, RECORDS, METERS, meters, first, first_free, count, end_u, end_v, next}
 use Rattle.site.specs.Image.{link_chain, free_chain, link_at, links, zero_at, pad_zero, free_ok, named, times, once_in, rules, valid}
 use Rattle.site.specs.Inner.{link_fits, walk_links, walk_free, head_ok, checks}
@@ -142,7 +142,7 @@ module _ (s : List ℕ) where
           links = t.2;
           links_ok = t.3;
           links_pad = t.4;
-          links_rise = sym (ascending_from_fact (meters s) (map (link_at s) t.0) t.3) ∙ t.5;
+          links_rise = sym (ascending_from_zero (meters s) (map (link_at s) t.0) t.3) ∙ t.5;
           counted = t.1;
           frees = f.2;
           frees_ok = f.3;
@@ -157,7 +157,7 @@ module _ (s : List ℕ) where
     good_checks =
         let c : count s ≡ length L = sym g.counted in
         let f : RECORDS - length L ≡ length F = omega (arith, g.whole) in
-        let r = ascending_from_fact (meters s) (map (link_at s) L) g.links_ok ∙ g.links_rise in
+        let r = ascending_from_zero (meters s) (map (link_at s) L) g.links_ok ∙ g.links_rise in
         rw (eq-eqb _ _ g.long, g.head, c, le-leb (length L) RECORDS (omega (arith, g.whole)), list_link s (meters s) L (first s) 0 0 g.links g.links_ok g.links_pad r, f, list_free s F (first_free s) g.frees g.frees_ok)
 
     -- the first list is the link chain
@@ -243,8 +243,8 @@ module _ (s : List ℕ) where
       }
 
   -- the code's two walks decide the rules
-  pub valid_checks : checks s ≡ valid s
-  valid_checks = same_test (checks s) (valid s) (λ e. let t = checks_good e in good_valid t.0 t.1 t.2) (λ e. good_checks (link_chain s) (free_chain s) (valid_good e))
+  pub valid_checks : valid s ≡ checks s
+  valid_checks = same_test (valid s) (checks s) (λ e. good_checks (link_chain s) (free_chain s) (valid_good e)) (λ e. let t = checks_good e in good_valid t.0 t.1 t.2)
 
 -- ---- what the code needs of a valid image
 module _ (s : List ℕ) (e : valid s ≡ true) where
@@ -267,6 +267,10 @@ module _ (s : List ℕ) (e : valid s ≡ true) where
   unfolding links
   links_length = length-map (link_chain s) (link_at s)
 
+  -- at most 256
+  pub few_links : length (links s) ≤ RECORDS
+  few_links = omega (arith, links_length, (valid_good s e).whole)
+
   -- its number of meters and its links are as a kind may rely on
   pub links_survey : IsSurvey (meters s) (links s)
   unfolding links head_ok
@@ -276,7 +280,7 @@ module _ (s : List ℕ) (e : valid s ≡ true) where
       record {
         meters_low = leb-true 1 (meters s) (and_left (leb 1 (meters s)) _ m);
         meters_high = leb-true (meters s) METERS (and_right (leb 1 (meters s)) _ m);
-        few = omega (arith, links_length, g.whole);
+        few = few_links;
         each = g.links_ok;
         rises = g.links_rise;
       }

@@ -1,4 +1,4 @@
--- One turn of each walk of `specs/Walks.antt`, by where it ends: what the loops of src/ go by. Assumes nothing.
+-- One turn of each walk of specs/Inner.antt, by where it ends: what the loops of src/ go by. Assumes nothing.
 use Prim.Native.Nat.{ℕ, suc, ◌+◌, ◌-◌, ◌≤◌, ◌<◌}
 use mathlib.Core.Bool.{true, false, ◌&&◌}
 use mathlib.Core.Path.{◌≡◌, ◌∙◌}

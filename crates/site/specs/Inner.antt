@@ -7,7 +7,6 @@ use Rattle.links.specs.Links.{link_ok, before, has_ends, bad_ends}
 use Rattle.site.specs.Layout.{SIZE, RECORDS, METERS, zero_bytes, meters, first, first_free, count, end_u, end_v, next}
 use Rattle.site.specs.Image.{link_at, zero_at, pad_zero, free_ok, named, valid}
 use Rattle.site.specs.Refusal.{refusal}
-use Rattle.site.specs.Edits.{after, place}
 
 -- the ends u and v, each below 256, as one number
 abbrev pub key : ℕ → ℕ → ℕ
@@ -57,7 +56,3 @@ find_refusal s a b = refusal ((1, not (valid s)) ∷ (2, bad_ends (meters s) a b
 -- record q is there and holds the link with ends a and b
 unfoldable pub is_link : List ℕ → ℕ → ℕ → ℕ → Bool
 is_link s a b q = named q && has_ends a b (link_at s q)
-
--- the record at the place of (a, b) does
-unfoldable pub at_place : List ℕ → ℕ → ℕ → Bool
-at_place s a b = is_link s a b (after s (place s a b))

@@ -4,7 +4,7 @@ ghost use Rattle.links.specs.Links.{bad_ends, low, high, present};
 ghost use Rattle.site.specs.Layout.{SIZE, RECORDS, free_at, count_at, first_free, count, set_word, set_record};
 ghost use Rattle.site.specs.Image.{links};
 ghost use Rattle.site.specs.Refusal.{number_of};
-ghost use Rattle.site.specs.Edits.{chained, slot, after, place, add_bytes, remove_bytes};
+ghost use Rattle.site.specs.Edits.{chained, slot, after, place as place_of, add_bytes, remove_bytes};
 ghost use Rattle.site.specs.Inner.{is_link, find_refusal};
 
 use crate::fields::Record;
@@ -15,34 +15,36 @@ use links::Link;
 // ---- begin
 
 /// Makes every record but the last name the one after it.
-pub fn chain_records(s: &mut [u8])
-    requires { length s.old ≡ SIZE }
-    ensures { s.new ≡ chained (RECORDS - 1) s.old }
+pub fn chain_records(image: &mut [u8])
+    requires { length image.old ≡ SIZE }
+    ensures { image.new ≡ chained (RECORDS - 1) image.old }
 {
-    for k in 1..fields::RECORDS {
-        fields::put_word(s, fields::slot_of(k), (k + 1) as u16);
+    for number in 1..fields::RECORDS {
+        fields::put_word(image, fields::slot_of(number), (number + 1) as u16);
     }
 }
 
 // ---- what add and remove look up
 
-// Whether q names a record that holds the link with ends a and b.
-fn holds_link(s: &[u8], a: u8, b: u8, q: usize) -> bool
-    requires { length s.now ≡ SIZE }
-    ensures { result ≡ is_link s.now a b q }
+// Whether the number is that of a record which holds the link with ends u and v.
+#[tactic(auto, using(crate::proofs::Sets::holds_link))]
+fn holds_link(image: &[u8], u: u8, v: u8, number: usize) -> bool
+    requires { length image.now ≡ SIZE }
+    ensures { result ≡ is_link image.now u v number }
 {
-    if !rules::names_record(q) {
+    if !rules::names_record(number) {
         return false;
     }
-    let link = fields::read_record(s, q).link;
-    (link.u, link.v) == (a, b)
+    let link = fields::read_record(image, number).link;
+    (link.u, link.v) == (u, v)
 }
 
-// Whether an end is 0 or above n, or both are equal. `|` keeps the proof to one path.
-fn bad_ends(n: u64, a: u64, b: u64) -> bool
-    ensures { result ≡ bad_ends n a b }
+// Whether an end is 0 or above the number of meters, or both are equal. `|` keeps the proof to one path.
+#[tactic(auto, using(crate::proofs::Turns::ends_test))]
+fn bad_ends(meters: u64, u: u64, v: u64) -> bool
+    ensures { result ≡ bad_ends meters u v }
 {
-    (a == 0) | (n < a) | (b == 0) | (n < b) | (a == b)
+    (u == 0) | (meters < u) | (v == 0) | (meters < v) | (u == v)
 }
 
 /// Where a link stands or is to stand: its ends, the lower first, the record that it follows, and whether it is there.
@@ -56,68 +58,79 @@ pub struct Found {
 }
 
 /// What add and remove share: the refusals 1 and 2, the ends in order, the link's place and whether it is there.
+#[tactic(auto, using(crate::proofs::Sets::find))]
 pub fn find(image: &[u8], u: u64, v: u64) -> Result<Found, Refusal>
-    ensures { MatchResult result (λ f. (find_refusal image.now u v ≡ 0) × (f.u ≡ low u v) × (f.v ≡ high u v) × (f.place ≡ place image.now (low u v) (high u v)) × (f.present ≡ present (low u v) (high u v) (links image.now))) (λ r. number_of r ≡ find_refusal image.now u v) }
+    ensures { MatchResult result (λ found. (find_refusal image.now u v ≡ 0) × (found.u ≡ low u v) × (found.v ≡ high u v) × (found.place ≡ place_of image.now (low u v) (high u v)) × (found.present ≡ present (low u v) (high u v) (links image.now))) (λ refusal. number_of refusal ≡ find_refusal image.now u v) }
 {
     // An end that is no byte is refused, and what it is taken for does not matter.
-    let a = u8::try_from(u.min(v)).unwrap_or(0);
-    let b = u8::try_from(u.max(v)).unwrap_or(0);
+    let low = u8::try_from(u.min(v)).unwrap_or(0);
+    let high = u8::try_from(u.max(v)).unwrap_or(0);
     // The walk that tests the image finds the place too, so that it is the only one. Its links are of no use here.
     let mut links = NO_LINKS;
-    let place = rules::read_image(image, a, b, &mut links).ok_or(Refusal::Image)?;
+    let place = rules::read_image(image, low, high, &mut links).ok_or(Refusal::Image)?;
     if bad_ends(image[fields::METERS_AT] as u64, u, v) {
         return Err(Refusal::Ends);
     }
-    let q = fields::follower(image, place);
+    let number = fields::follower(image, place);
     Ok(Found {
-        u: a,
-        v: b,
+        u: low,
+        v: high,
         place,
-        present: holds_link(image, a, b, q as usize),
+        present: holds_link(image, low, high, number as usize),
     })
 }
 
 // ---- stores
 
-// The stores that add and remove share: the first free record, the count, record k, and the record that follows record p.
-fn relink(s: &mut [u8], free: u16, count: u16, k: usize, r: Record, p: usize, following: u16)
-    requires { (length s.old ≡ SIZE) × (k ≤ RECORDS) × (p ≤ RECORDS) }
-    ensures { s.new ≡ set_word (set_record (set_word (set_word s.old free_at free) count_at count) k r.link.u r.link.v r.link.weight r.next) (slot p) following }
+// The stores that add and remove share: the first free record, the count, what the record of that number holds, and the record that follows the place.
+fn relink(
+    image: &mut [u8],
+    free: u16,
+    count: u16,
+    number: usize,
+    held: Record,
+    place: usize,
+    following: u16,
+)
+    requires { (length image.old ≡ SIZE) × (number ≤ RECORDS) × (place ≤ RECORDS) }
+    ensures { image.new ≡ set_word (set_record (set_word (set_word image.old free_at free) count_at count) number held.link.u held.link.v held.link.weight held.next) (slot place) following }
 {
-    fields::put_word(s, fields::FREE_AT, free);
-    fields::put_word(s, fields::COUNT_AT, count);
-    fields::put_record(s, k, r);
-    fields::put_word(s, fields::slot_of(p), following);
+    fields::put_word(image, fields::FREE_AT, free);
+    fields::put_word(image, fields::COUNT_AT, count);
+    fields::put_record(image, number, held);
+    fields::put_word(image, fields::slot_of(place), following);
 }
 
-/// Takes the first free record for a link, and puts it after record p, the link's place.
-pub fn insert(s: &mut [u8], p: usize, link: Link)
-    requires { (length s.old ≡ SIZE) × (p ≡ place s.old link.u link.v) × (p ≤ RECORDS) × (first_free s.old ≤ RECORDS) × (count s.old ≤ RECORDS) }
-    ensures { s.new ≡ add_bytes s.old link.u link.v link.weight }
+/// Takes the first free record for a link, and puts it after the link's place.
+#[tactic(auto, using(crate::proofs::Sets::relinks), unfolding(crate::specs::Edits::add_bytes))]
+pub fn insert(image: &mut [u8], place: usize, link: Link)
+    requires { (length image.old ≡ SIZE) × (place ≡ place_of image.old link.u link.v) × (place ≤ RECORDS) × (first_free image.old ≤ RECORDS) × (count image.old ≤ RECORDS) }
+    ensures { image.new ≡ add_bytes image.old link.u link.v link.weight }
 {
-    let k = fields::read_word(s, fields::FREE_AT);
-    let count = fields::read_word(s, fields::COUNT_AT);
-    let free = fields::read_record(s, k as usize).next;
-    let r = Record {
+    let number = fields::read_word(image, fields::FREE_AT);
+    let count = fields::read_word(image, fields::COUNT_AT);
+    let free = fields::read_record(image, number as usize).next;
+    let held = Record {
         link,
-        next: fields::follower(s, p),
+        next: fields::follower(image, place),
         pad: 0,
     };
-    relink(s, free, count + 1, k as usize, r, p, k);
+    relink(image, free, count + 1, number as usize, held, place, number);
 }
 
-/// Takes the record after record p out of the link chain, clears it, and makes it the first free one.
-pub fn delete(s: &mut [u8], p: usize)
-    requires { (length s.old ≡ SIZE) × (p ≤ RECORDS) × (after s.old p ≤ RECORDS) × (1 ≤ count s.old) }
-    ensures { (u v : ℕ) → p ≡ place s.old u v → s.new ≡ remove_bytes s.old u v }
+/// Takes the record after a place out of the link chain, clears it, and makes it the first free one.
+#[tactic(auto, using(crate::proofs::Sets::relinks), unfolding(crate::specs::Edits::remove_bytes))]
+pub fn delete(image: &mut [u8], place: usize)
+    requires { (length image.old ≡ SIZE) × (place ≤ RECORDS) × (after image.old place ≤ RECORDS) × (1 ≤ count image.old) }
+    ensures { (u v : ℕ) → place ≡ place_of image.old u v → image.new ≡ remove_bytes image.old u v }
 {
-    let k = fields::follower(s, p);
-    let count = fields::read_word(s, fields::COUNT_AT);
-    let next = fields::read_record(s, k as usize).next;
-    let r = Record {
+    let number = fields::follower(image, place);
+    let count = fields::read_word(image, fields::COUNT_AT);
+    let next = fields::read_record(image, number as usize).next;
+    let held = Record {
         link: NO_LINK,
-        next: fields::read_word(s, fields::FREE_AT),
+        next: fields::read_word(image, fields::FREE_AT),
         pad: 0,
     };
-    relink(s, k, count - 1, k as usize, r, p, next);
+    relink(image, number, count - 1, number as usize, held, place, next);
 }

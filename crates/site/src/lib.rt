@@ -1,4 +1,5 @@
-// The site image: 2,064 bytes that the caller lends, with N and the links of a site. These are the public calls; none asks anything of its caller. A refused call gives the first refusal that applies, and alters nothing.
+// The site image: 2,064 bytes that the caller lends, with N and the links of a site. These are the public calls; none
+// asks anything of its caller. A refused call gives the first refusal that applies, and alters nothing.
 #![tactic(auto)]
 
 mod edits;
@@ -16,6 +17,7 @@ pub use refusals::Refusal;
 pub use rules::{NO_LINK, NO_LINKS};
 
 /// Tells whether the bytes are a site image.
+#[tactic(auto, using(crate::proofs::Refused::check_number))]
 pub fn check(image: &[u8]) -> Result<(), Refusal>
     ensures value { number_told result ≡ check_refusal image.now }
     ensures image_value { image.exit.now ≡ image.entry.now }
@@ -28,6 +30,7 @@ pub fn check(image: &[u8]) -> Result<(), Refusal>
 }
 
 /// Makes the image a new one of that many meters: all records free, in order, and no links.
+#[tactic(auto, using(crate::proofs::Sets::begin))]
 pub fn begin(image: &mut [u8], meters: u64) -> Result<(), Refusal>
     ensures value { number_told result ≡ begin_refusal image.old meters }
     ensures image_after { image.new ≡ begin_image image.old meters }
@@ -46,6 +49,7 @@ pub fn begin(image: &mut [u8], meters: u64) -> Result<(), Refusal>
 }
 
 /// Adds the link between u and v, either way round.
+#[tactic(auto, using(crate::proofs::Sets::add))]
 pub fn add(image: &mut [u8], u: u64, v: u64, weight: u16) -> Result<(), Refusal>
     ensures value { number_told result ≡ add_refusal image.old u v weight }
     ensures image_after { image.new ≡ add_image image.old u v weight }
@@ -70,6 +74,7 @@ pub fn add(image: &mut [u8], u: u64, v: u64, weight: u16) -> Result<(), Refusal>
 }
 
 /// Removes the link between u and v, either way round.
+#[tactic(auto, using(crate::proofs::Sets::remove))]
 pub fn remove(image: &mut [u8], u: u64, v: u64) -> Result<(), Refusal>
     ensures value { number_told result ≡ remove_refusal image.old u v }
     ensures image_after { image.new ≡ remove_image image.old u v }
@@ -83,7 +88,8 @@ pub fn remove(image: &mut [u8], u: u64, v: u64) -> Result<(), Refusal>
 }
 
 /// What is read out of an image beside the links: the number of meters, and how many links there are.
-// A count and no slice: of a lent slice of which a part is returned, no contract can tell the rest.
+// A count and no slice: what a lent slice holds beside a part that is returned is told only by a clause that is proved
+// by hand, as that of `plans::row`, and the one caller cuts the slice in a line.
 #[derive(Clone, Copy, Debug, PartialEq, Eq)]
 pub struct Reading {
     pub meters: usize,
@@ -91,9 +97,10 @@ pub struct Reading {
 }
 
 /// Reads N and the links, for the kinds: the links stand in the first places of the lent array. The rest of it, and all of it on refusal, stays as it was.
+#[tactic(auto, using(crate::proofs::Sets::read))]
 pub fn read(image: &[u8], links: &mut [Link; 256]) -> Result<Reading, Refusal>
     ensures refusal_value { number_told result ≡ check_refusal image.now }
-    ensures reading { IfOk result (λ r. (r.meters ≡ read_meters image.now) × (r.count ≡ length (read_links image.now))) }
+    ensures reading { IfOk result (λ reading. (reading.meters ≡ read_meters image.now) × (reading.count ≡ length (read_links image.now))) }
     ensures links_after { links.new ≡ over (read_links image.now) links.old }
     ensures image_value { image.exit.now ≡ image.entry.now }
 {

@@ -1,6 +1,7 @@
 // What a call is refused for.
 ghost use Rattle.std.specs.Prelude.{◌≡◌};
 
+use std::error::Error;
 use std::fmt;
 
 /// Why a call is refused, under the papers' numbers: the first reason that applies is given, and nothing lent is altered.
@@ -69,3 +70,6 @@ impl fmt::Display for Refusal {
         write!(f, "refused {}: {}", self.number(), self.words())
     }
 }
+
+// For callers of the library: the programs here print the number alone.
+impl Error for Refusal {}

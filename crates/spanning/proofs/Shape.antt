@@ -14,7 +14,7 @@ use Rattle.lists.specs.Sums.{nth}
 use Rattle.lists.proofs.Tests.{every_at, all_from, from_all}
 use Rattle.links.specs.Links.{has_ends, present}
 use Rattle.links.specs.declared.Link.{Link}
-use Rattle.links.proofs.Altered.{ends_u_fact, ends_v_fact, ends_yes}
+use Rattle.links.proofs.Altered.{ends_at_u, ends_at_v, ends_yes}
 use Rattle.spanning.specs.Parents.{depth_of, at_most, linked, parent_linked, roots_of, is_rooted}
 use Rattle.spanning.specs.Spanning.{Joins, along, back, Linked, here, there}
 
@@ -44,7 +44,7 @@ present_linked a b [] e = absurd (false≢true e)
 present_linked a b (l ∷ ls) e = go (has_ends a b l) refl e (present_linked a b ls)
   where
     go : (t : Bool) → has_ends a b l ≡ t → (t || present a b ls) ≡ true → (present a b ls ≡ true → Linked a b ls) → Linked a b (l ∷ ls)
-    go true q r f = here (along (ends_u_fact a b l q) (ends_v_fact a b l q))
+    go true q r f = here (along (ends_at_u a b l q) (ends_at_v a b l q))
     go false q r f = there (f r)
 
 -- the test gives the fact
@@ -84,9 +84,9 @@ low_depth D d h e l = rw e (le-leb h D l)
 -- ---- the whole test
 
 -- the parent is none, or a linked neighbour
-parent_linked_fact : (p : List ℕ) (ls : List Link) (v : ℕ) → parent_linked p ls v ≡ true → (nth p v ≡ 0 → ⊥) → Linked v (nth p v) ls
+parent_is_linked : (p : List ℕ) (ls : List Link) (v : ℕ) → parent_linked p ls v ≡ true → (nth p v ≡ 0 → ⊥) → Linked v (nth p v) ls
 unfolding parent_linked
-parent_linked_fact p ls v e n = linked_of v (nth p v) ls (rw (ne_eqb (nth p v) 0 n) at e)
+parent_is_linked p ls v e n = linked_of v (nth p v) ls (rw (ne_eqb (nth p v) 0 n) at e)
 
 -- and the other way
 linked_parent : (p : List ℕ) (ls : List Link) (v : ℕ) → ((nth p v ≡ 0 → ⊥) → Linked v (nth p v) ls) → parent_linked p ls v ≡ true
@@ -103,7 +103,7 @@ unfolding is_rooted
 shape_of N D ls p e = record {
   len = eqb-true (length p) N (every_at _ 0 e);
   one_root = eqb-true (roots_of N p) 1 (every_at _ 1 e);
-  linked = λ v a b. parent_linked_fact p ls v (all_from (parent_linked p ls) 1 N v (every_at _ 2 e) a (omega arith));
+  linked = λ v a b. parent_is_linked p ls v (all_from (parent_linked p ls) 1 N v (every_at _ 2 e) a (omega arith));
   low = λ v a b. depth_low D (depth_of p N v) (all_from (λ v. at_most D (depth_of p N v)) 1 N v (every_at _ 3 e) a (omega arith));
 }
 

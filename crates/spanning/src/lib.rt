@@ -1,4 +1,5 @@
-// Rooted trees over a site's links: the depth of a meter, found by recursion up its parents. Definitions are in specs/; that every spanning tree has a root with no depth over N/2 is proved in proofs/.
+// Rooted trees over a site's links: the depth of a meter, found by recursion up its parents. Definitions are in specs/;
+// that every spanning tree has a root with no depth over N/2 is proved in proofs/.
 #![tactic(auto)]
 
 ghost use Rattle.std.specs.Prelude.{MatchOption, ◌≡◌, ◌≤◌};
@@ -6,6 +7,7 @@ ghost use Rattle.lists.specs.Sums.{nth};
 ghost use Rattle.spanning.specs.Parents.{deepest, depth_of};
 
 /// D, which no depth in a plan exceeds: half the number of meters, rounded down.
+#[tactic(auto, unfolding(crate::specs::Parents::deepest))]
 pub fn deepest(meters: usize) -> usize
     ensures { result ≡ deepest meters }
 {
@@ -24,7 +26,8 @@ pub fn parent_of(parents: &[u8], v: usize) -> Option<usize>
     Some(parent as usize)
 }
 
-/// The depth of meter v: 0 at the root, otherwise one more than the parent's. Each step up uses up one of those allowed, so a ring of parents ends too: there the steps do not lead to a root.
+/// The depth of meter v: 0 at the root, otherwise one more than the parent's. Each step up uses up one of those allowed,
+/// so a ring of parents ends too: there the steps do not lead to a root.
 #[tactic(auto, using(crate::proofs::Recursion::depth_none))]
 pub fn depth_of(parents: &[u8], v: usize, allowance: usize) -> Option<usize>
     ensures { result ≡ depth_of parents.now allowance v }

@@ -1,4 +1,5 @@
-// Calls that read an image for what is asked. What is lent is printed after the call, so that a line shows what was altered too: numbers lent are 77 at first, and bytes 7.
+// Calls that read an image for what is asked. What is lent is printed after the call, so that a line shows what was
+// altered too: numbers lent are 77 at first, and bytes 7.
 ghost use Rattle.std.specs.Prelude.{◌≡◌, IfOk, min, vec_len};
 
 use crate::answers::{Answer, Decoding, differing, number, write_bytes};
@@ -49,10 +50,12 @@ impl Row {
         Row { ask, index, count }
     }
 
-    /// The number of the row's refusal, 0 for none, and the length of the part that comes back; the same number of the call that fills other places, in how many places what the two calls leave
+    /// The number of the row's refusal, 0 for none, and the length of the part that comes back; the same number of the
+    /// call that fills other places, in how many places what the two calls leave
     /// differs, and what the first one leaves.
     pub fn show(self, alloc: Global, out: &mut impl Write, image: &[u8]) -> io::Result<()> {
-        // An allocator is a parameter in this language.
+        // The allocator is a parameter, as std has it: a struct of it and the output would be no plainer, since half of
+        // the commands need no allocator.
         let mut places = lent(alloc, NUMBER, MOST_NUMBERS, self.count)?;
         let mut others = lent(alloc, NUMBER, MOST_NUMBERS, self.count)?;
         let refusal = number(plans::row_refusal(image, self.ask, self.index, places.as_slice()));

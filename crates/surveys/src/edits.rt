@@ -30,7 +30,8 @@ impl Edit {
 
     /// Makes the edit; the number of its refusal, 0 for none, and how many bytes were altered.
     pub fn show(self, alloc: Global, out: &mut impl Write, image: &mut [u8]) -> io::Result<()> {
-        // An allocator is a parameter in this language.
+        // The allocator is a parameter, as std has it: a struct of it and the output would be no plainer, since half of
+        // the commands need no allocator.
         let old = image.to_vec(alloc)?;
         let refusal = number(self.make(image));
         write!(
@@ -126,7 +127,8 @@ fn write_calls(out: &mut impl Write, image: &mut [u8]) -> io::Result<()> {
     let check = number(site::check(image));
     let added = number(plans::add(image, 3, 4, 9));
     let removed = number(plans::remove(image, 1, 2));
-    let read = number(site::read(image, &mut [site::NO_LINK; 256]));
+    let mut links = site::NO_LINKS;
+    let read = number(site::read(image, &mut links));
     write!(
         out,
         ": check {check}, add {added}, remove {removed}, read {read}"

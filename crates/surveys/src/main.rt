@@ -1,5 +1,7 @@
-// Carries out the lines of its standard input, each a call of the library or what is lent to it, and prints every line with what the library answers. The stored input has the surveys that the papers
-// work through and many others, and the stored output what the papers say of them, by model.py beside it: it is not copied from a run. A new survey is a line of each file.
+// Carries out the lines of its standard input, each a call of the library or what is lent to it, and prints every line
+// with what the library answers. The stored input has the surveys that the papers
+// work through and many others, and the stored output what the papers say of them, by model.py beside it: it is not
+// copied from a run. A new survey is a line of each file.
 #![tactic(auto)]
 
 mod answers;

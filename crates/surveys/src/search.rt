@@ -77,9 +77,11 @@ impl Search {
         }
     }
 
-    /// Tries them: how many there are, how many are plans, how many are refused by 12, and the least energy. Bits that a refusal left as they were are no code (7 is no bit) or that of an earlier plan.
+    /// Tries them: how many there are, how many are plans, how many are refused by 12, and the least energy. Bits that a
+    /// refusal left as they were are no code (7 is no bit) or that of an earlier plan.
     pub fn show(&self, alloc: Global, out: &mut impl Write, image: &[u8]) -> io::Result<()> {
-        // An allocator is a parameter in this language.
+        // The allocator is a parameter, as std has it: a struct of it and the output would be no plainer, since half of
+        // the commands need no allocator.
         let mut plan = lent(alloc, BYTE, MOST_BYTES, self.bytes)?;
         let mut bits = lent(alloc, BYTE, MOST_BYTES, self.bits)?;
         let mut accepted = 0u64;

@@ -98,7 +98,7 @@ module _ (N d : ℕ) (ls : List Link) (survey : IsSurvey N ls) (meters : 2 ≤ N
 
     -- and the plan is the candidate, with its own weight
     pub plan_read : (A : ℕ) (plan q : List ℕ) (w : ℕ) → q ≡ candidate N ls x → w ≡ tree_weight ls q → (Some (record { weight = w; repaired = 0 }) ≡ answer_of (instance A N d ls) x) × (q ≡ plan_after (instance A N d ls) x plan)
-    plan_read A plan q w e c = plan_decoded (instance A N d ls) x decides B zero_coded zero refl plan q w e c
+    plan_read A plan q w e c = plan_decoded (instance A N d ls) x decides B zero_coded zero plan q w e c
 
 -- the energy fits, with room to spare
 pub energy_small : (A k h C : ℕ) → A ≤ 20000000 → k ≤ 2 ^ 32 → h ≤ 2 ^ 34 → C ≤ 805294080 → A * (k + h) + C < 2 ^ 62

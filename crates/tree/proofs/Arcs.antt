@@ -12,7 +12,7 @@ use Rattle.lists.proofs.Sums.{same_yes, same_no, sum_of_add}
 use Rattle.links.specs.Links.{has_ends, times_of}
 use Rattle.links.specs.declared.Link.{Link}
 use Rattle.links.specs.Survey.{IsSurvey}
-use Rattle.links.proofs.Altered.{ends_u_fact, ends_v_fact, ends_yes, ends_no, ascending_once, times_sum, times_falling}
+use Rattle.links.proofs.Altered.{ends_at_u, ends_at_v, ends_yes, ends_no, ascending_once, times_sum, times_falling}
 use Rattle.spanning.specs.Spanning.{along, back, Linked, here, there}
 use Rattle.spanning.proofs.Shape.{linked_flip}
 use Rattle.arcs.specs.Arcs.{Arc, arcs_from, arcs}
@@ -59,7 +59,7 @@ times_linked a b [] h = absurd (omega arith)
 times_linked a b (l ∷ ls) h = go (has_ends a b l) refl h (times_linked a b ls)
   where
     go : (t : Bool) → has_ends a b l ≡ t → 1 ≤ cond t 1 0 + times_of a b ls → (1 ≤ times_of a b ls → Linked a b ls) → Linked a b (l ∷ ls)
-    go true q h f = here (along (ends_u_fact a b l q) (ends_v_fact a b l q))
+    go true q h f = here (along (ends_at_u a b l q) (ends_at_v a b l q))
     go false q h f = there (f (omega arith))
 
 -- where an arc leads from u to v, a link joins them
@@ -84,20 +84,20 @@ linked_between ls u v k = omega (arith, arcs_times ls u v, linked_times u v ls k
 -- ---- places among the arcs
 
 -- the same of arcs numbered from k
-place_from_fact : (k : ℕ) (ls : List Link) (f : Arc → ℕ) (a : Arc) → Memᴰ a (arcs_from k ls)
+arc_placed : (k : ℕ) (ls : List Link) (f : Arc → ℕ) (a : Arc) → Memᴰ a (arcs_from k ls)
     → (j : ℕ) × (a.number ≡ k + j) × (j < length (arcs_from k ls)) × (get_or (map f (arcs_from k ls)) j 0 ≡ f a)
 unfolding arcs_from
-place_from_fact k [] f a i = elim i [ ]
-place_from_fact k (l ∷ ls) f a (Memᴰ.head e) = (0, rw e (omega arith), omega arith, rw e refl)
-place_from_fact k (l ∷ ls) f a (Memᴰ.tail (Memᴰ.head e)) = (1, rw e (omega arith), omega arith, rw e refl)
-place_from_fact k (l ∷ ls) f a (Memᴰ.tail (Memᴰ.tail i)) =
-    let t = place_from_fact (suc (suc k)) ls f a i in (suc (suc t.0), omega (arith, t.1), omega (arith, t.2), t.3)
+arc_placed k [] f a i = elim i [ ]
+arc_placed k (l ∷ ls) f a (Memᴰ.head e) = (0, rw e (omega arith), omega arith, rw e refl)
+arc_placed k (l ∷ ls) f a (Memᴰ.tail (Memᴰ.head e)) = (1, rw e (omega arith), omega arith, rw e refl)
+arc_placed k (l ∷ ls) f a (Memᴰ.tail (Memᴰ.tail i)) =
+    let t = arc_placed (suc (suc k)) ls f a i in (suc (suc t.0), omega (arith, t.1), omega (arith, t.2), t.3)
 
 -- what is listed of each arc stands at the arc's number
 pub arc_place : (ls : List Link) (f : Arc → ℕ) (a : Arc) → Memᴰ a (arcs ls) → (a.number < 2 * length ls) × (get_or (map f (arcs ls)) a.number 0 ≡ f a)
 unfolding arcs
 arc_place ls f a i =
-    let t = place_from_fact 0 ls f a i in
+    let t = arc_placed 0 ls f a i in
     let e : a.number ≡ t.0 = omega (arith, t.1) in
     (omega (arith, t.2, arcs_length ls), ap (λ (n : ℕ). get_or (map f (arcs_from 0 ls)) n 0) e ∙ t.3)
 
@@ -110,6 +110,6 @@ at_from k (l ∷ ls) (suc zero) h = (_, Memᴰ.tail (Memᴰ.head refl), omega ar
 at_from k (l ∷ ls) (suc (suc j)) h = let t = at_from (suc (suc k)) ls j (omega arith) in (t.0, Memᴰ.tail (Memᴰ.tail t.1), omega (arith, t.2))
 
 -- each number below theirs is an arc's
-pub arc_at_fact : (ls : List Link) (j : ℕ) → j < 2 * length ls → (a : Arc) × Memᴰ a (arcs ls) × (a.number ≡ j)
+pub arc_numbered : (ls : List Link) (j : ℕ) → j < 2 * length ls → (a : Arc) × Memᴰ a (arcs ls) × (a.number ≡ j)
 unfolding arcs
-arc_at_fact ls j h = let t = at_from 0 ls j (omega (arith, arcs_length ls)) in (t.0, t.1, omega (arith, t.2))
+arc_numbered ls j h = let t = at_from 0 ls j (omega (arith, arcs_length ls)) in (t.0, t.1, omega (arith, t.2))

@@ -18,7 +18,7 @@ use Rattle.arcs.specs.Arcs.{Arc, arcs, depth_at, arc_at}
 use Rattle.neighbours.specs.Formula.{count_at}
 use Rattle.tree.specs.Formula.{bit_count, TreeBits, bits_of}
 use Rattle.tree.specs.Plans.{is_plan, bit_of_depth, depth_choices, arc_choice, arc_choices, count_choices, code_of}
-use Rattle.tree.proofs.Arcs.{arc_place, arc_at_fact}
+use Rattle.tree.proofs.Arcs.{arc_place, arc_numbered}
 use Rattle.tree.proofs.Filling.{arc_choices_length}
 use Rattle.tree.proofs.Agree.{Agree, agree_trans, agree_sym}
 
@@ -156,7 +156,7 @@ module _ (N d : ℕ) (ls : List Link) where
     unfolding bits_of arc_at
     arcs_equal q h =
         let t = part_place (2 * length ls) (deepest N) q h in
-        let a = arc_at_fact ls (q / deepest N) t.0 in
+        let a = arc_numbered ls (q / deepest N) t.0 in
         let e : N * suc (deepest N) + a.0.number * deepest N + q % deepest N ≡ N * suc (deepest N) + q = rw a.2 (omega (arith, t.2)) in
         rw (← e) (g.arc a.0 a.1 (suc (q % deepest N)) (omega arith) t.1)
 

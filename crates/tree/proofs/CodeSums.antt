@@ -15,7 +15,8 @@ use Rattle.lists.proofs.Members.{sum_of_eq, sum_of_none, sum_of_mul}
 use Rattle.links.specs.Links.{total}
 use Rattle.links.specs.declared.Link.{Link}
 use Rattle.links.specs.Survey.{LinkOf, IsSurvey}
-use Rattle.links.proofs.Altered.{link_in_fact}
+use Rattle.links.proofs.Graph.{graph_of}
+use Rattle.links.proofs.Altered.{member_link}
 use Rattle.qubo.specs.Terms.{each}
 use Rattle.onehot.specs.Choices.{set_at, miss_squared, misses}
 use Rattle.onehot.proofs.Codes.{each_length, each_at, misses_hot}
@@ -34,7 +35,7 @@ use Rattle.tree.specs.Decoding.{parent_read, candidate_to, candidate}
 use Rattle.tree.proofs.Arcs.{arcs_leading}
 use Rattle.tree.proofs.Agree.{broken_eq, cost_eq, parents_eq}
 use Rattle.tree.proofs.CodeBits.{code_bits, list_bits, code_agrees}
-use Rattle.tree.proofs.Written.{one_arc, depth_bit_fact, choice_bit, depth_zero, arc_sum, entries_code, touches_code}
+use Rattle.tree.proofs.Written.{one_arc, depth_bit_same, choice_bit, depth_zero, arc_sum, entries_code, touches_code}
 use Rattle.tree.proofs.PlanFacts.{plan_rooted, plan_shape, plan_few, some_neighbour}
 
 -- ---- weights
@@ -90,14 +91,14 @@ module _ (N D : ℕ) (ls : List Link) (p : List ℕ) (s : IsSurvey N ls) (t : Sh
   arc_ends a e i c (no n) = rw (same_no (nth p a.child) a.parent n, zero-mul (same (bit_of_depth (depth_of p N a.child)) (suc i))) (zero-mul _)
   arc_ends a e i c (yes q) =
       let o = at_other N D ls p t a.child e.child_low e.child_high (λ z. omega (arith, e.parent_low)) in
-      rw (depth_bit_fact _ (suc o.0) i o.1, depth_bit_fact _ o.0 (pred i) (ap (depth_of p N) (sym q) ∙ o.2)) (ends_none o.0 (same (nth p a.child) a.parent) i c)
+      rw (depth_bit_same _ (suc o.0) i o.1, depth_bit_same _ o.0 (pred i) (ap (depth_of p N) (sym q) ∙ o.2)) (ends_none o.0 (same (nth p a.child) a.parent) i c)
 
   -- so no arc that is set misses an end
   ends_zero : end_misses D (arcs ls) (code_bits N p).dep (code_bits N p).arc ≡ 0
   unfolding end_misses code_bits
   ends_zero = sum_of_none (arcs ls) _ (λ a m. sum_to_none D _ (λ i c d.
       ap (λ (x : ℕ). x * (2 - (same (bit_of_depth (depth_of p N a.parent)) (suc (pred i)) + same (bit_of_depth (depth_of p N a.child)) (suc i)))) (choice_bit N p a i c)
-      ∙ arc_ends a (arc_of N ls s a m) i c (ℕ_discrete (nth p a.child) a.parent)))
+      ∙ arc_ends a (arc_of N ls (graph_of N ls s) a m) i c (ℕ_discrete (nth p a.child) a.parent)))
 
   -- ---- the sums of neighbour counts
 
@@ -141,7 +142,7 @@ module _ (N D : ℕ) (ls : List Link) (p : List ℕ) (s : IsSurvey N ls) (t : Sh
   unfolding arc_cost code_bits tree_weight total
   tree_cost =
       sum_of_eq (arcs ls) _ (λ a. a.weight * same (nth p a.child) a.parent) (λ a m. ap (λ (x : ℕ). a.weight * x) (arc_sum N D ls p s t a m))
-      ∙ sum_arcs ls (λ a. a.weight * same (nth p a.child) a.parent) (λ l. cond (is_used p l) l.weight 0) (λ k l i. link_cost l (link_in_fact N ls s.each l i))
+      ∙ sum_arcs ls (λ a. a.weight * same (nth p a.child) a.parent) (λ l. cond (is_used p l) l.weight 0) (λ k l i. link_cost l (member_link N ls s.each l i))
       ∙ sym (used_sum p (λ l. l.weight) ls)
 
   -- ---- the parents read off
@@ -174,7 +175,7 @@ module _ (N d : ℕ) (ls : List Link) (s : IsSurvey N ls) where
   -- the sum that A multiplies is 0
   pub code_broken : 2 ≤ N → (p : List ℕ) → is_plan N d ls p ≡ true → broken N (deepest N) d (arcs ls) (bits_of N (deepest N) (length ls) d (code_of N d ls p)) ≡ 0
   code_broken n2 p e =
-      broken_eq N (deepest N) d (arcs ls) _ (code_bits N p) (code_agrees N d ls p) (arc_of N ls s)
+      broken_eq N (deepest N) d (arcs ls) _ (code_bits N p) (code_agrees N d ls p) (arc_of N ls (graph_of N ls s))
       ∙ broken_none N (deepest N) ls p s (plan_shape N d ls p e) d (some_neighbour N (deepest N) ls p s n2 (plan_rooted N d ls p e)) (plan_few N d ls p e)
 
   -- the arcs set cost the tree's weight

@@ -34,16 +34,16 @@ use Rattle.tree.specs.Instance.{instance}
 use Rattle.tree.specs.Best.{CodesBest}
 use Rattle.tree.proofs.Asking.{limit_high, two_meters}
 use Rattle.tree.proofs.Value.{worth, formula_value}
-use Rattle.tree.proofs.Bound.{formula_norm_fact}
+use Rattle.tree.proofs.Bound.{formula_small}
 use Rattle.tree.proofs.CodeBits.{code_assignment}
 use Rattle.tree.proofs.CodeSums.{weight_total, code_broken, code_cost, candidate_code}
 use Rattle.tree.proofs.PlanFacts as facts
 use Rattle.tree.proofs.Broken.{broken_exactly, broken_cost}
 
 -- "A plan is N bytes"
-plan_bytes_fact : (N d : ℕ) (ls : List Link) (p : List ℕ) → is_plan N d ls p ≡ true → length p ≡ N
+plan_bytes_length : (N d : ℕ) (ls : List Link) (p : List ℕ) → is_plan N d ls p ≡ true → length p ≡ N
 unfolding is_plan is_rooted every
-plan_bytes_fact N d ls p e = eqb-true (length p) N (and_left (eqb (length p) N) _ (and_left (is_rooted N (deepest N) ls p) _ e))
+plan_bytes_length N d ls p e = eqb-true (length p) N (and_left (eqb (length p) N) _ (and_left (is_rooted N (deepest N) ls p) _ e))
 
 module _ (N d : ℕ) (ls : List Link) (s : IsSurvey N ls) (w : within_limits N d ≡ true) where
   -- ---- plans and spanning trees
@@ -68,8 +68,8 @@ module _ (N d : ℕ) (ls : List Link) (s : IsSurvey N ls) (w : within_limits N d
 
     pub sound : A ≤ 20000000 → Sound I
     sound small = record {
-      small = omega (arith, table_bound (formula A N d ls) (bit_count N (length ls) d), formula_norm_fact A N d ls s (limit_high N d w) small);
-      plan_bytes_fact = plan_bytes_fact N d ls;
+      small = omega (arith, table_bound (formula A N d ls) (bit_count N (length ls) d), formula_small A N d ls s (limit_high N d w) small);
+      plan_bytes_length = plan_bytes_length N d ls;
       assigned = code_assignment N d ls;
       decodes_code = λ p e. (codes_exactly (is_plan N d ls) (code_of N d ls) (candidate N ls) (candidate_code N d ls s) (code_of N d ls p)).1 (record { plan = p; ok = e; codes = refl });
       decoded_code = candidate_code N d ls s;

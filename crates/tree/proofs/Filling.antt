@@ -16,7 +16,7 @@ use Rattle.onehot.proofs.Parts.{one_less}
 use Rattle.spanning.specs.Parents.{depth_of, neighbours}
 use Rattle.std.specs.Prelude.{Option, Some, None}
 use Rattle.arcs.specs.Arcs.{Arc, arcs}
-use Rattle.arcs.proofs.ArcLists.{arcs_length, arc_up, arc_back, arcs_left, arcs_start, arcs_turn, arcs_end_fact}
+use Rattle.arcs.proofs.ArcLists.{arcs_length, arc_up, arc_back, arcs_left, arcs_start, arcs_turn, arcs_past}
 use Rattle.tree.specs.Plans.{bit_of_depth, arc_depth, depth_choices, arc_choice, arc_choices, count_choices}
 
 -- ---- a value for each meter
@@ -110,7 +110,7 @@ module _ (ls : List Link) (f : Arc → ℕ) where
   pub arcs_filled_end : (k : ℕ) (l : List ℕ) → k ≡ length ls → ArcsFilled k l → take (2 * length ls) l ≡ map f (arcs ls)
   arcs_filled_end k l e a =
       ap (λ t. take (2 * t) l) (sym e)
-      ∙ sym (ap (λ (t : List Arc). take (2 * k) l ++ map f t) (arcs_end_fact ls k (omega arith)) ∙ append-nil (take (2 * k) l))
+      ∙ sym (ap (λ (t : List Arc). take (2 * k) l ++ map f t) (arcs_past ls k (omega arith)) ∙ append-nil (take (2 * k) l))
       ∙ a.whole
 
 -- ---- as many choices as meters or arcs

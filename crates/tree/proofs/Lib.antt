@@ -19,3 +19,4 @@ pub mod PlanTest
 pub mod Placing
 pub mod ReadParents
 pub mod Answering
+pub mod Weightless

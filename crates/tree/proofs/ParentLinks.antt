@@ -11,10 +11,11 @@ use Rattle.lists.specs.Tests.{all, any, from}
 use Rattle.lists.specs.Sums.{sum_to, sum_of, same, differ, nth}
 use Rattle.lists.proofs.Tests.{or_left, or_right, all_head, all_tail, all_from, from_all}
 use Rattle.lists.proofs.Sums.{same_yes, same_no, differ_yes, differ_no, differ_le, sum_to_eq, sum_to_none, sum_to_single, sum_to_add, sum_to_less, sum_to_const}
-use Rattle.links.specs.Links.{link_ok, has_ends, present, times_of}
+use Rattle.links.specs.Links.{edge_ok, has_ends, present, times_of}
 use Rattle.links.specs.declared.Link.{Link}
-use Rattle.links.specs.Survey.{LinkOf, IsSurvey}
-use Rattle.links.proofs.Altered.{link_of, ends_yes, ends_no, ascending_once}
+use Rattle.links.specs.Survey.{EdgeOf, IsGraph}
+use Rattle.links.proofs.Altered.{ends_yes, ends_no, ascending_once}
+use Rattle.links.proofs.Graph.{edge_of}
 use Rattle.spanning.specs.Parents.{linked, parent_linked, roots_of}
 
 -- ---- links between two meters
@@ -36,15 +37,15 @@ module _ (a b : ℕ) where
   times_none (l ∷ ls) e = rw (or_left (has_ends a b l) _ e, times_none ls (or_right (has_ends a b l) _ e)) refl
 
   -- none but from the lower meter to the higher, and none at 0
-  times_order : (N : ℕ) (ls : List Link) → all (link_ok N) ls ≡ true → (1 ≤ a → a < b → ⊥) → times_of a b ls ≡ 0
+  times_order : (N : ℕ) (ls : List Link) → all (edge_ok N) ls ≡ true → (1 ≤ a → a < b → ⊥) → times_of a b ls ≡ 0
   unfolding times_of
   times_order N [] o h = refl
   times_order N (l ∷ ls) o h =
-      let k = link_of N l (all_head (link_ok N) l ls o) in
-      rw (ends_no a b l (λ p q. h (omega (arith, k.u_low)) (omega (arith, k.ordered))), times_order N ls (all_tail (link_ok N) l ls o) h) refl
+      let k = edge_of N l (all_head (edge_ok N) l ls o) in
+      rw (ends_no a b l (λ p q. h (omega (arith, k.u_low)) (omega (arith, k.ordered))), times_order N ls (all_tail (edge_ok N) l ls o) h) refl
 
 -- at most one link joins two meters
-times_once : (N : ℕ) (ls : List Link) (a b : ℕ) → IsSurvey N ls → times_of a b ls + times_of b a ls ≤ 1
+times_once : (N : ℕ) (ls : List Link) (a b : ℕ) → IsGraph N ls → times_of a b ls + times_of b a ls ≤ 1
 times_once N ls a b s =
     elim (dec_lt a b) [
       | yes h ↦ omega (arith, ascending_once ls a b s.rises, times_order b a N ls s.each (λ p q. omega arith))
@@ -68,7 +69,7 @@ module _ (p : List ℕ) where
   up : Link → ℕ → ℕ
   up l m = cond (has_ends m (nth p m) l) 1 0
 
-  down_sum : (N : ℕ) (l : Link) → LinkOf N l → sum_to N (down l) ≡ same (nth p l.v) l.u
+  down_sum : (N : ℕ) (l : Link) → EdgeOf N l → sum_to N (down l) ≡ same (nth p l.v) l.u
   unfolding down
   down_sum N l k =
       sum_to_single N (down l) l.v (omega (arith, k.u_low, k.ordered)) k.v_high (λ i n. rw (ends_no (nth p i) i l (λ x y. n (sym y))) refl)
@@ -77,7 +78,7 @@ module _ (p : List ℕ) where
         | no e ↦ rw (ends_no (nth p l.v) l.v l (λ x y. e (sym x))) (sym (same_no (nth p l.v) l.u e))
       ]
 
-  up_sum : (N : ℕ) (l : Link) → LinkOf N l → sum_to N (up l) ≡ same (nth p l.u) l.v
+  up_sum : (N : ℕ) (l : Link) → EdgeOf N l → sum_to N (up l) ≡ same (nth p l.u) l.v
   unfolding up
   up_sum N l k =
       sum_to_single N (up l) l.u k.u_low (omega (arith, k.v_high, k.ordered)) (λ i n. rw (ends_no i (nth p i) l (λ x y. n (sym x))) refl)
@@ -87,18 +88,18 @@ module _ (p : List ℕ) where
       ]
 
   -- counted link by link or meter by meter
-  joining_sum : (N : ℕ) (ls : List Link) → all (link_ok N) ls ≡ true → sum_of ls joining ≡ sum_to N (links_to ls)
+  joining_sum : (N : ℕ) (ls : List Link) → all (edge_ok N) ls ≡ true → sum_of ls joining ≡ sum_to N (links_to ls)
   unfolding sum_of joining links_to times_of down up
   joining_sum N [] o = sym (sum_to_none N (λ m. 0) (λ i a b. refl))
   joining_sum N (l ∷ ls) o =
-      let k = link_of N l (all_head (link_ok N) l ls o) in
-      omega (arith, joining_sum N ls (all_tail (link_ok N) l ls o), down_sum N l k, up_sum N l k, split)
+      let k = edge_of N l (all_head (edge_ok N) l ls o) in
+      omega (arith, joining_sum N ls (all_tail (edge_ok N) l ls o), down_sum N l k, up_sum N l k, split)
     where
       split : sum_to N (links_to (l ∷ ls)) ≡ sum_to N (down l) + sum_to N (up l) + sum_to N (links_to ls)
       split = sum_to_eq N (links_to (l ∷ ls)) (λ m. (down l m + up l m) + links_to ls m) (λ i a b. omega arith) ∙ sum_to_add N (λ m. down l m + up l m) (links_to ls) ∙ ap (λ (t : ℕ). t + sum_to N (links_to ls)) (sum_to_add N (down l) (up l))
 
   -- at a root none, elsewhere at most one
-  links_to_le : (N : ℕ) (ls : List Link) (m : ℕ) → IsSurvey N ls → links_to ls m ≤ differ (nth p m) 0
+  links_to_le : (N : ℕ) (ls : List Link) (m : ℕ) → IsGraph N ls → links_to ls m ≤ differ (nth p m) 0
   unfolding links_to
   links_to_le N ls m s =
       elim (ℕ_discrete (nth p m) 0) [
@@ -107,7 +108,7 @@ module _ (p : List ℕ) where
       ]
 
   -- just one, where the parent is linked
-  links_to_yes : (N : ℕ) (ls : List Link) (m : ℕ) → IsSurvey N ls → parent_linked p ls m ≡ true → links_to ls m ≡ differ (nth p m) 0
+  links_to_yes : (N : ℕ) (ls : List Link) (m : ℕ) → IsGraph N ls → parent_linked p ls m ≡ true → links_to ls m ≡ differ (nth p m) 0
   unfolding parent_linked linked links_to
   links_to_yes N ls m s e =
       elim (ℕ_discrete (nth p m) 0) [
@@ -144,7 +145,7 @@ module _ (p : List ℕ) where
       one : (x : ℕ) → differ x 0 + same x 0 ≡ 1
       one x = elim (ℕ_discrete x 0) [ yes e ↦ omega (arith, differ_no x 0 e, same_yes x 0 e) | no e ↦ omega (arith, differ_yes x 0 e, same_no x 0 e) ]
 
-  pub all_linked : (N : ℕ) (ls : List Link) → IsSurvey N ls → all (parent_linked p ls) (from 1 N) ≡ true ↔ sum_of ls joining + roots_of N p ≡ N
+  pub all_linked : (N : ℕ) (ls : List Link) → IsGraph N ls → all (parent_linked p ls) (from 1 N) ≡ true ↔ sum_of ls joining + roots_of N p ≡ N
   all_linked N ls s = (
     λ e. omega (arith, joining_sum N ls s.each, parents_roots N, sum_to_eq N (links_to ls) (λ v. differ (nth p v) 0) (λ i a b. links_to_yes N ls i s (all_from (parent_linked p ls) 1 N i e a (omega arith)))),
     λ e. from_all (parent_linked p ls) 1 N (λ i a b. links_to_no ls i (omega (arith, links_to_le N ls i s, joining_sum N ls s.each, parents_roots N, sum_to_less N (links_to ls) (λ v. differ (nth p v) 0) i a (omega arith) (λ j x y. links_to_le N ls j s)))),

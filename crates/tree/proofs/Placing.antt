@@ -12,7 +12,6 @@ use borrow.Author.Tests.{eqb-true, leb-true}
 use Rattle.lists.specs.Sums.{nth}
 use Rattle.lists.proofs.Sums.{nth_past}
 use Rattle.lists.proofs.Tests.{and_left, and_right, every_at, all_from}
-use Rattle.qubo.specs.Decoding.{code_after}
 use Rattle.links.specs.declared.Link.{Link}
 use Rattle.onehot.specs.Choices.{code}
 use Rattle.onehot.proofs.Codes.{each_at, code_length}
@@ -24,7 +23,6 @@ use Rattle.arcs.specs.Arcs.{arcs, depths_end, arcs_end}
 use Rattle.tree.specs.Formula.{bit_count}
 use Rattle.tree.specs.Plans.{few_neighbours, is_plan, bit_of_depth, arc_depth, depth_choices, arc_choice, arc_choices, count_choices, code_of}
 use Rattle.tree.specs.Inner.{placed}
-use Rattle.tree.specs.Instance.{instance}
 use Rattle.tree.proofs.Filling.{depths_length, counts_length, arc_choices_length}
 
 -- ---- a part in its place
@@ -112,9 +110,9 @@ module _ (N D d : ℕ) (ls : List Link) (p : List ℕ) (is : D ≡ deepest N) (e
           ]
 
   -- no depth bit above D + 1
-  pub depths_in_fact : (v : ℕ) → v < N → get_or (depth_choices N p) v 0 ≤ suc D
+  pub depths_within : (v : ℕ) → v < N → get_or (depth_choices N p) v 0 ≤ suc D
   unfolding depth_choices
-  depths_in_fact v h = rw (each_at N (λ u. bit_of_depth (depth_of p N u)) v h) (depth_bit_in D (depth_of p N (suc v)) (depth_in (suc v) (omega arith) h)).0
+  depths_within v h = rw (each_at N (λ u. bit_of_depth (depth_of p N u)) v h) (depth_bit_in D (depth_of p N (suc v)) (depth_in (suc v) (omega arith) h)).0
 
   -- no arc bit above D, for any links
   pub arcs_in : (qs : List Link) (k : ℕ) → get_or (arc_choices N qs p) k 0 ≤ D
@@ -126,9 +124,9 @@ module _ (N D d : ℕ) (ls : List Link) (p : List ℕ) (is : D ≡ deepest N) (e
       one false v = omega arith
 
   -- no count bit above d
-  pub counts_in_fact : (v : ℕ) → v < N → get_or (count_choices N p) v 0 ≤ d
+  pub counts_within : (v : ℕ) → v < N → get_or (count_choices N p) v 0 ≤ d
   unfolding count_choices is_plan few_neighbours
-  counts_in_fact v h =
+  counts_within v h =
       rw (each_at N (neighbours N p) v h)
       (leb-true (neighbours N p (suc v)) d (all_from (λ u. leb (neighbours N p u) d) 1 N (suc v) (and_right (is_rooted N (deepest N) ls p) _ e) (omega arith) (omega arith)))
 
@@ -169,15 +167,3 @@ module _ (N D d M : ℕ) (ls : List Link) (p : List ℕ) (is : D ≡ deepest N) 
 
       all : placed (arcs_end N D M) (code d (count_choices N p)) (placed (depths_end N D) (code D (arc_choices N ls p)) (placed 0 (code (suc D) (depth_choices N p)) x₀)) ≡ code (suc D) (depth_choices N p) ++ code D (arc_choices N ls p) ++ code d (count_choices N p)
       all = placed_all (code (suc D) (depth_choices N p)) (code D (arc_choices N ls p)) (code d (count_choices N p)) x₀ (depths_end N D) (arcs_end N D M) (sym a) (omega (arith, a, b)) (omega (arith, a, b, g, bits_are N D d M (length x₀) is e))
-
--- ---- the code where there is a plan
-
--- no plan: the bits are as they were
-pub coded_none : (N d : ℕ) (ls : List Link) (A : ℕ) (p x : List ℕ) → is_plan N d ls p ≡ false → x ≡ code_after (instance A N d ls) p x
-unfolding code_after
-coded_none N d ls A p x n = rw n refl
-
--- a plan: they are its code
-pub coded_plan : (N d : ℕ) (ls : List Link) (A : ℕ) (p x y : List ℕ) → is_plan N d ls p ≡ true → y ≡ code_of N d ls p → y ≡ code_after (instance A N d ls) p x
-unfolding code_after
-coded_plan N d ls A p x y t e = rw (t, e) refl

@@ -15,7 +15,7 @@ use Rattle.lists.proofs.Tests.{and_right, and_both, and_true, same_test, all_hea
 use Rattle.lists.proofs.Sums.{same_le, differ_yes, differ_no}
 use Rattle.links.specs.Links.{total}
 use Rattle.links.specs.declared.Link.{Link}
-use Rattle.links.specs.Survey.{IsSurvey}
+use Rattle.links.specs.Survey.{IsGraph}
 use Rattle.lists.proofs.Walks.{Summed, summed_end}
 use Rattle.qubo.specs.Terms.{each}
 use Rattle.onehot.specs.Choices.{are_choices}
@@ -175,6 +175,11 @@ and_false : (t : Bool) → (t && false) ≡ false
 and_false true = refl
 and_false false = refl
 
+-- where there is a root, there is a meter
+pub root_some : (N : ℕ) (p : List ℕ) → roots_of N p ≡ 1 → 1 ≤ N
+unfolding roots_of
+root_some N p e = omega (arith, count_le N p 0)
+
 -- the roots are those meters whose parent is 0
 module _ (N : ℕ) (p : List ℕ) (roots : ℕ) (size : length p ≡ N) (are : roots ≡ sum_to (length p) (λ v. same (nth p v) 0)) where
   roots_are : roots_of N p ≡ roots
@@ -204,7 +209,7 @@ module _ (N d : ℕ) (ls : List Link) (p : List ℕ) where
     unfolding is_plan
     plan_crowded f = let g : few_neighbours N d p ≡ false = rw (← size) f in rw (g, and_false) refl
 
-    module _ (root : roots_of N p ≡ 1) (s : IsSurvey N ls) (joined : ℕ) (are : joined ≡ sum_of ls (λ l. same (nth p l.u) l.v + same (nth p l.v) l.u)) where
+    module _ (root : roots_of N p ≡ 1) (s : IsGraph N ls) (joined : ℕ) (are : joined ≡ sum_of ls (λ l. same (nth p l.u) l.v + same (nth p l.v) l.u)) where
       -- a parent that is no linked neighbour
       pub plan_unlinked : (joined ≡ N - 1 → ⊥) → is_plan N d ls p ≡ false
       unfolding is_plan is_rooted every joining
@@ -216,7 +221,7 @@ module _ (N d : ℕ) (ls : List Link) (p : List ℕ) where
         -- all parents are linked
         links_yes : all (parent_linked p ls) (from 1 N) ≡ true
         unfolding joining
-        links_yes = (all_linked p N ls s).1 (omega (arith, s.meters_low))
+        links_yes = (all_linked p N ls s).1 (omega (arith, root_some N p root))
 
         -- so the depths decide whether it is rooted
         rooted_is : is_rooted N (deepest N) ls p ≡ all (λ v. at_most (deepest N) (depth_of p N v)) (from 1 N)

@@ -11,6 +11,7 @@ use Rattle.lists.proofs.Sums.{same_yes, same_no, same_le, sum_to_eq, sum_to_hot,
 use Rattle.lists.proofs.Members.{sum_of_eq, sum_of_term, sum_of_hot}
 use Rattle.links.specs.declared.Link.{Link}
 use Rattle.links.specs.Survey.{IsSurvey}
+use Rattle.links.proofs.Graph.{graph_of}
 use Rattle.qubo.specs.Terms.{each}
 use Rattle.onehot.proofs.Codes.{each_length, each_at}
 use Rattle.std.specs.Prelude.{Some}
@@ -28,7 +29,7 @@ use Rattle.tree.specs.Decoding.{parent_read}
 use Rattle.tree.proofs.Arcs.{arcs_leading, arcs_once, between_linked}
 use Rattle.tree.proofs.Agree.{Agree}
 use Rattle.tree.proofs.CodeBits.{code_bits}
-use Rattle.tree.proofs.Written.{depth_bit_fact, choice_bit, touches_code}
+use Rattle.tree.proofs.Written.{depth_bit_same, choice_bit, touches_code}
 use Rattle.tree.proofs.Unbroken.{Unbroken, depth_read, depth_le, depth_is, both_ends, the_parent, arc_in, Placed, placed}
 
 -- ---- the parents read off are a rooted tree
@@ -48,9 +49,9 @@ module _ (N D d : ℕ) (ls : List Link) (s : IsSurvey N ls) (b : TreeBits) (c : 
   nth_parents (suc k) p q = nth_suc parents k ∙ each_at N parent_of k q
 
   -- each depth is the one that its bits give
-  depth_read_fact : (k v : ℕ) → 1 ≤ v → v ≤ N → depth_read D b v < k → depth_of parents k v ≡ Some (depth_read D b v)
-  depth_read_fact zero v p q l = absurd (omega arith)
-  depth_read_fact (suc k) v p q l = go (λ u. depth_read_fact k u) (placed N D d ls s b c v p q)
+  depth_found : (k v : ℕ) → 1 ≤ v → v ≤ N → depth_read D b v < k → depth_of parents k v ≡ Some (depth_read D b v)
+  depth_found zero v p q l = absurd (omega arith)
+  depth_found (suc k) v p q l = go (λ u. depth_found k u) (placed N D d ls s b c v p q)
     where
       go : ((u : ℕ) → 1 ≤ u → u ≤ N → depth_read D b u < k → depth_of parents k u ≡ Some (depth_read D b u)) → Placed N D d ls s b c v → depth_of parents (suc k) v ≡ Some (depth_read D b v)
       go ih (inl (e, h)) = depth_root parents (suc k) v (omega arith) (nth_parents v p q ∙ e) ∙ ap Some (sym h)
@@ -81,7 +82,7 @@ module _ (N D d : ℕ) (ls : List Link) (s : IsSurvey N ls) (b : TreeBits) (c : 
       len = each_length N parent_of;
       one_root = sum_to_eq N _ (λ v. b.dep v 0) root_bit ∙ c.root;
       linked = λ v p q n. rw (nth_parents v p q) (joined v (λ z. n (nth_parents v p q ∙ z)) (placed N D d ls s b c v p q));
-      low = λ v p q. (depth_read D b v, depth_read_fact N v p q (omega (arith, depth_le N D d ls s b c v p q)), depth_le N D d ls s b c v p q);
+      low = λ v p q. (depth_read D b v, depth_found N v p q (omega (arith, depth_le N D d ls s b c v p q)), depth_le N D d ls s b c v p q);
     }
       where
         joined : (v : ℕ) → (parent_of v ≡ 0 → ⊥) → Placed N D d ls s b c v → Linked v (parent_of v) ls
@@ -93,7 +94,7 @@ module _ (N D d : ℕ) (ls : List Link) (s : IsSurvey N ls) (b : TreeBits) (c : 
     -- a meter is at the depth that its parents give
     code_depths : (v i : ℕ) → 1 ≤ v → v ≤ N → i ≤ D → b.dep v i ≡ (code_bits N parents).dep v i
     unfolding code_bits
-    code_depths v i p q l = depth_is N D d ls s b c v i p q l ∙ sym (depth_bit_fact _ (depth_read D b v) i (depth_read_fact N v p q (omega (arith, depth_le N D d ls s b c v p q))))
+    code_depths v i p q l = depth_is N D d ls s b c v i p q l ∙ sym (depth_bit_same _ (depth_read D b v) i (depth_found N v p q (omega (arith, depth_le N D d ls s b c v p q))))
 
     -- an arc is set at depth i just where it leads from the parent read off and its child is at that depth
     code_arcs : (a : Arc) → Memᴰ a (arcs ls) → (i : ℕ) → 1 ≤ i → i ≤ D → b.arc a i ≡ (code_bits N parents).arc a i
@@ -103,7 +104,7 @@ module _ (N D d : ℕ) (ls : List Link) (s : IsSurvey N ls) (b : TreeBits) (c : 
         ∙ sym (choice_bit N parents a i i1 ∙ ap₂ (λ (x y : ℕ). same x a.parent * y) (nth_parents a.child e.child_low e.child_high) (sym (code_depths a.child i e.child_low e.child_high iD) ∙ depth_is N D d ls s b c a.child i e.child_low e.child_high iD))
       where
         e : ArcOf N a
-        e = arc_of N ls s a m
+        e = arc_of N ls (graph_of N ls s) a m
 
         set : 1 ≤ b.arc a i → b.arc a i ≡ same (parent_of a.child) a.parent * same (depth_read D b a.child) i
         set on =

@@ -12,12 +12,12 @@ use Rattle.lists.proofs.Sums.{same_yes, same_no, sum_of_times, nth_index, nth_su
 use Rattle.lists.proofs.Stores.{added_here, added_elsewhere, added_same}
 use Rattle.links.specs.Links.{link_in}
 use Rattle.links.specs.declared.Link.{Link}
-use Rattle.links.specs.Survey.{IsSurvey}
+use Rattle.links.specs.Survey.{IsGraph}
 use Rattle.qubo.specs.Formula.{Bits}
 use Rattle.onehot.proofs.Codes.{each_length, each_at}
 use Rattle.onehot.proofs.Parts.{one_less}
 use Rattle.arcs.specs.Arcs.{Arc, arcs, arc_at}
-use Rattle.arcs.proofs.ArcLists.{ArcOf, arc_of, arc_up, arc_back, arcs_left, arcs_start, arcs_turn, arcs_end_fact, up_among, back_among}
+use Rattle.arcs.proofs.ArcLists.{ArcOf, arc_of, arc_up, arc_back, arcs_left, arcs_start, arcs_turn, arcs_past, up_among, back_among}
 use Rattle.arcs.specs.Inner.{link_set}
 use Rattle.arcs.proofs.Slices.{slice, slice_sum}
 use Rattle.arcs.proofs.LinkBits.{set_parts}
@@ -113,14 +113,14 @@ unfolding sum_of
 sums_le [] f g h = omega arith
 sums_le (a ∷ ks) f g h = add-le-add (h a (Memᴰ.head refl)) (sums_le ks f g (λ b m. h b (Memᴰ.tail m)))
 
-module _ (N D : ℕ) (ls : List Link) (x : List ℕ) (survey : IsSurvey N ls) (deep : D ≤ 24) (r : Readable N D ls x) where
+module _ (N D : ℕ) (ls : List Link) (x : List ℕ) (graph : IsGraph N ls) (deep : D ≤ 24) (r : Readable N D ls x) where
   -- no more than one parent is read at a meter
   read_few : (v : ℕ) → 1 ≤ v → v ≤ N → sum_of (arcs ls) (gives N D x v) ≤ 48
   unfolding gives
   read_few v l h =
       omega (
         arith,
-        sums_le (arcs ls) (gives N D x v) (λ a. 48 * (same a.child v * sum_to D (arc_at N D x a))) (λ a m. le (same a.child v * sum_to D (arc_at N D x a)) a.parent (omega (arith, (arc_of N ls survey a m).parent_high, survey.meters_high))),
+        sums_le (arcs ls) (gives N D x v) (λ a. 48 * (same a.child v * sum_to D (arc_at N D x a))) (λ a m. le (same a.child v * sum_to D (arc_at N D x a)) a.parent (omega (arith, (arc_of N ls graph a m).parent_high, graph.few_meters))),
         sum_of_times (arcs ls) 48 (λ a. same a.child v * sum_to D (arc_at N D x a)),
         r.once v l h,
       )
@@ -184,7 +184,7 @@ module _ (N D : ℕ) (ls : List Link) (x : List ℕ) (survey : IsSurvey N ls) (d
   read_end k p h i = ext_get_or 0 p (candidate_to D N (ls) x) (i.size ∙ sym (each_length N _)) entry
     where
       left : (v : ℕ) → sum_of (arcs_left ls k) (gives N D x v) ≡ 0
-      left v = ap (λ (l : List Arc). sum_of l (gives N D x v)) (arcs_end_fact ls k h)
+      left v = ap (λ (l : List Arc). sum_of l (gives N D x v)) (arcs_past ls k h)
 
       entry : (j : ℕ) → j < length p → get_or p j 0 ≡ get_or (candidate_to D N (ls) x) j 0
       entry j b = sym (each_at N (parent_read D (arcs ls) (arc_at N D x)) j (omega (arith, i.size)) ∙ sym (i.whole (suc j) (omega arith) (omega (arith, i.size))) ∙ omega (arith, left (suc j), nth_suc p j))
@@ -192,14 +192,14 @@ module _ (N D : ℕ) (ls : List Link) (x : List ℕ) (survey : IsSurvey N ls) (d
   -- the two arcs of link k: u to v, then v to u
   module _ (k : ℕ) (h : k < length ls) where
     up_of : ArcOf N (arc_up ls k)
-    up_of = arc_of N ls survey (arc_up ls k) (up_among ls k (2 * k) h refl)
+    up_of = arc_of N ls graph (arc_up ls k) (up_among ls k (2 * k) h refl)
 
     back_of : ArcOf N (arc_back ls k)
-    back_of = arc_of N ls survey (arc_back ls k) (back_among ls k (2 * k + 1) h refl)
+    back_of = arc_of N ls graph (arc_back ls k) (back_among ls k (2 * k + 1) h refl)
 
     -- where their bits start
-    first_at_fact : N * suc D + 2 * k * D ≡ N * suc D + (arc_up ls k).number * D
-    first_at_fact = refl
+    first_start : N * suc D + 2 * k * D ≡ N * suc D + (arc_up ls k).number * D
+    first_start = refl
 
     second_at : N * suc D + 2 * k * D + D ≡ N * suc D + (arc_back ls k).number * D
     second_at = omega (arith, add-mul (2 * k) 1 D)
@@ -219,12 +219,12 @@ module _ (N D : ℕ) (ls : List Link) (x : List ℕ) (survey : IsSurvey N ls) (d
 
       second_left : ReadTo N D ls x (arc_back ls k ∷ arcs_left ls (k + 1)) first_read
       unfolding first_read
-      second_left = arc_turn (arc_up ls k) _ p both_left up_of (N * suc D + 2 * k * D) first_at_fact first_read refl
+      second_left = arc_turn (arc_up ls k) _ p both_left up_of (N * suc D + 2 * k * D) first_start first_read refl
 
       -- what read_link asks of the bits and of the plan
       pub link_asks : Bits x × (D ≤ 24) × (N * suc D + 2 * k * D + D + D ≤ length x) × (set_from x (N * suc D + 2 * k * D) D ≤ 1) × (set_from x (N * suc D + 2 * k * D + D) D ≤ 1)
       link_asks =
-          let a = arc_asks (arc_up ls k) _ p both_left up_of (N * suc D + 2 * k * D) first_at_fact (omega arith) in
+          let a = arc_asks (arc_up ls k) _ p both_left up_of (N * suc D + 2 * k * D) first_start (omega arith) in
           let b = arc_asks (arc_back ls k) _ first_read second_left back_of (N * suc D + 2 * k * D + D) second_at (omega arith) in
           (r.bits, deep, b.2, a.3, b.3)
 

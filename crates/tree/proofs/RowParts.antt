@@ -6,7 +6,7 @@ use lib.ListN.{length, get_or}
 use lib.IntN.{ℤ, pos, nat_abs}
 use native.Mathlib.Omega.{arith}
 use Rattle.links.specs.declared.Link.{Link}
-use Rattle.links.specs.Survey.{IsSurvey}
+use Rattle.links.specs.Survey.{IsGraph}
 use Rattle.qubo.specs.Formula.{Formula}
 use Rattle.qubo.specs.Norm.{formula_norm}
 use Rattle.qubo.specs.Table.{row_of}
@@ -24,7 +24,7 @@ use Rattle.tree.specs.Formula.{formula_to}
 use Rattle.neighbours.specs.Inner.{TableRow}
 use Rattle.tree.specs.Inner.{depth_part, count_part, arc_part}
 use Rattle.neighbours.proofs.CountValue.{counts_norm}
-use Rattle.tree.proofs.Bound.{norm_to}
+use Rattle.tree.proofs.Bound.{six, six_norm}
 
 -- ---- rows on the way, with terms f added
 
@@ -67,26 +67,26 @@ module _ (N D A M i : ℕ) (r : List ℤ) (t : below.Row (2 ^ 58) N D A M i r) w
           next_row ((root_term A N D ∷ []) ++ depth_terms A N D)
           (omega (arith, norm_append (root_term A N D ∷ []) (depth_terms A N D), root_norm A N D n, depths_norm A N D n e, t.penalty)) i r u both N D A M t
 
-      pub depth_part_fact : (ks : List Arc) (v : List ℤ) → v ≡ add_terms (entry_terms A N D ks) i u → v ≡ add_terms (depth_part A N D ks) i r
+      pub depth_part_added : (ks : List Arc) (v : List ℤ) → v ≡ add_terms (entry_terms A N D ks) i u → v ≡ add_terms (depth_part A N D ks) i r
       unfolding depth_part
-      depth_part_fact ks v entries = entries ∙ ap (add_terms (entry_terms A N D ks) i) both ∙ sym (add_append ((root_term A N D ∷ []) ++ depth_terms A N D) (entry_terms A N D ks) i r)
+      depth_part_added ks v entries = entries ∙ ap (add_terms (entry_terms A N D ks) i) both ∙ sym (add_append ((root_term A N D ∷ []) ++ depth_terms A N D) (entry_terms A N D ks) i r)
 
   module _ (ls : List Link) (s : List ℤ) (ends : s ≡ add_terms (end_terms A N D (arcs ls)) i r) where
-    pub weights_ask : IsSurvey N ls → D ≤ 24 → below.Row (2 ^ 59) N D A M i s
+    pub weights_ask : IsGraph N ls → D ≤ 24 → below.Row (2 ^ 59) N D A M i s
     weights_ask y e = next_row (end_terms A N D (arcs ls)) (omega (arith, ends_norm A N D ls y e, t.penalty)) i r s ends N D A M t
 
-    pub arc_part_fact : (v : List ℤ) → v ≡ add_terms (weight_terms N D (arcs ls)) i s → v ≡ add_terms (arc_part A N D (arcs ls)) i r
+    pub arc_part_added : (v : List ℤ) → v ≡ add_terms (weight_terms N D (arcs ls)) i s → v ≡ add_terms (arc_part A N D (arcs ls)) i r
     unfolding arc_part
-    arc_part_fact v weights = weights ∙ ap (add_terms (weight_terms N D (arcs ls)) i) ends ∙ sym (add_append (end_terms A N D (arcs ls)) (weight_terms N D (arcs ls)) i r)
+    arc_part_added v weights = weights ∙ ap (add_terms (weight_terms N D (arcs ls)) i) ends ∙ sym (add_append (end_terms A N D (arcs ls)) (weight_terms N D (arcs ls)) i r)
 
 module _ (N D M d A i : ℕ) (r : List ℤ) (t : TableRow (2 ^ 58) N D M d A i r) where
   module _ (n : N ≤ 48) (e : d ≤ 47) (s : List ℤ) (counts : s ≡ add_terms (count_terms A N D M d) i r) where
     pub degrees_ask : TableRow (2 ^ 59) N D M d A i s
     degrees_ask = next_counts (count_terms A N D M d) (omega (arith, counts_norm A N D M d n e, t.penalty)) i r s counts N D M d A t
 
-    pub count_part_fact : (ks : List Arc) (v : List ℤ) → v ≡ add_terms (degree_terms A N D M d ks) i s → v ≡ add_terms (count_part A N D M d ks) i r
+    pub count_part_added : (ks : List Arc) (v : List ℤ) → v ≡ add_terms (degree_terms A N D M d ks) i s → v ≡ add_terms (count_part A N D M d ks) i r
     unfolding count_part
-    count_part_fact ks v degrees = degrees ∙ ap (add_terms (degree_terms A N D M d ks) i) counts ∙ sym (add_append (count_terms A N D M d) (degree_terms A N D M d ks) i r)
+    count_part_added ks v degrees = degrees ∙ ap (add_terms (degree_terms A N D M d ks) i) counts ∙ sym (add_append (count_terms A N D M d) (degree_terms A N D M d ks) i r)
 
 -- ---- the whole row
 
@@ -94,7 +94,7 @@ module _ (N D M d A i : ℕ) (r : List ℤ) (t : TableRow (2 ^ 58) N D M d A i r
 row_two : (T : ℕ) (f g h : Formula) (i : ℕ) (r s : List ℤ) → r ≡ row_of f T i → s ≡ add_terms (g ++ h) i r → s ≡ row_of (f ++ g ++ h) T i
 row_two T f g h i r s e a = row_next T (f ++ g) h i (add_terms g i r) s (row_next T f g i r (add_terms g i r) e refl) (a ∙ add_append g h i r)
 
-module _ (A N D d i : ℕ) (ls : List Link) (survey : IsSurvey N ls) (high : d ≤ 47) (deep : D ≤ 24) (few : A ≤ 20000000) where
+module _ (A N D d i : ℕ) (ls : List Link) (graph : IsGraph N ls) (high : d ≤ 47) (deep : D ≤ 24) (few : A ≤ 20000000) where
   abbrev M : ℕ
   M = length ls
 
@@ -112,15 +112,10 @@ module _ (A N D d i : ℕ) (ls : List Link) (survey : IsSurvey N ls) (high : d �
   unfolding formula_to depth_part
   formula_is = refl
 
-  norm_is : formula_norm counts_in + formula_norm (end_terms A N D (arcs ls)) + formula_norm (weight_terms N D (arcs ls)) < 2 ^ 54
-  norm_is =
-      omega (
-        arith,
-        norm_to D A N d ls survey deep high few,
-        ap formula_norm formula_is,
-        norm_append (counts_in ++ end_terms A N D (arcs ls)) (weight_terms N D (arcs ls)),
-        norm_append counts_in (end_terms A N D (arcs ls)),
-      )
+  -- what is in the row before the weights, which are added last, is small
+  norm_is : formula_norm counts_in < 2 ^ 54
+  unfolding six
+  norm_is = omega (arith, six_norm D A N d ls graph deep high, few, norm_append counts_in (end_terms A N D (arcs ls)))
 
   module _ (L : ℕ) (long : i + L ≡ T) (own : 1 ≤ L) where
     -- a row of terms that are small
@@ -128,7 +123,7 @@ module _ (A N D d i : ℕ) (ls : List Link) (survey : IsSurvey N ls) (high : d �
     filled f r e h =
         let top = row_top T f i r (omega arith) e in
         let s = row_room (2 ^ 58) T f [] i r e (omega arith) in
-        let b = bits_few N D M d survey.meters_high deep survey.few high in (
+        let b = bits_few N D M d graph.few_meters deep graph.few high in (
           record { own = omega arith; inside = omega arith; short = omega (arith, b); small = λ k. omega (arith, s.room k); penalty = few },
           record { own = omega arith; whole = top; small = λ k. omega (arith, s.room k); penalty = few },
         )

@@ -11,6 +11,7 @@ use Rattle.lists.proofs.Sums.{same_yes, same_no, same_le, same_one, gap_squared_
 use Rattle.lists.proofs.Members.{sum_of_eq, sum_of_none, sum_of_term, sum_of_zero, sum_of_some, sum_of_hot, sum_of_swap}
 use Rattle.links.specs.declared.Link.{Link}
 use Rattle.links.specs.Survey.{IsSurvey}
+use Rattle.links.proofs.Graph.{graph_of}
 use Rattle.onehot.specs.Choices.{set_at, misses}
 use Rattle.onehot.proofs.Codes.{miss_one, misses_hot}
 use Rattle.arcs.specs.Arcs.{Arc, arcs}
@@ -63,9 +64,9 @@ module _ (N D d : ℕ) (ls : List Link) (s : IsSurvey N ls) (b : TreeBits) (c : 
       )
 
   -- that bit gives the depth
-  depth_of_fact : (v h : ℕ) → h ≤ D → ((i : ℕ) → i ≤ D → b.dep v i ≡ same h i) → depth_read D b v ≡ h
+  depth_read_off : (v h : ℕ) → h ≤ D → ((i : ℕ) → i ≤ D → b.dep v i ≡ same h i) → depth_read D b v ≡ h
   unfolding depth_read
-  depth_of_fact v h l f =
+  depth_read_off v h l f =
       sum_to_eq D _ (λ i. same h i * i) (λ i p q. mul_comm i (b.dep v i) ∙ ap (λ (x : ℕ). x * i) (f i q))
       ∙ elim (ℕ_discrete h 0) [
         | yes e ↦ sum_to_none D _ (λ i p q. same_none h i i (λ z. omega arith)) ∙ sym e
@@ -74,11 +75,11 @@ module _ (N D d : ℕ) (ls : List Link) (s : IsSurvey N ls) (b : TreeBits) (c : 
 
   -- it is at most D
   pub depth_le : (v : ℕ) → 1 ≤ v → v ≤ N → depth_read D b v ≤ D
-  depth_le v p q = let t = one_depth v p q in omega (arith, depth_of_fact v t.0 t.1 t.2, t.1)
+  depth_le v p q = let t = one_depth v p q in omega (arith, depth_read_off v t.0 t.1 t.2, t.1)
 
   -- the depth bits are those of that depth
   pub depth_is : (v i : ℕ) → 1 ≤ v → v ≤ N → i ≤ D → b.dep v i ≡ same (depth_read D b v) i
-  depth_is v i p q l = let t = one_depth v p q in t.2 i l ∙ ap (λ (h : ℕ). same h i) (sym (depth_of_fact v t.0 t.1 t.2))
+  depth_is v i p q l = let t = one_depth v p q in t.2 i l ∙ ap (λ (h : ℕ). same h i) (sym (depth_read_off v t.0 t.1 t.2))
 
   -- ---- arcs
 
@@ -95,7 +96,7 @@ module _ (N D d : ℕ) (ls : List Link) (s : IsSurvey N ls) (b : TreeBits) (c : 
     -- its child is at depth i, its parent one higher up
     pub both_ends : (depth_read D b a.child ≡ i) × (suc (depth_read D b a.parent) ≡ i)
     both_ends =
-        let e = arc_of N ls s a m in
+        let e = arc_of N ls (graph_of N ls s) a m in
         let x = depth_is a.parent (pred i) e.parent_low e.parent_high (omega arith) in
         let y = depth_is a.child i e.child_low e.child_high iD in
         let z : 2 - (b.dep a.parent (pred i) + b.dep a.child i) ≡ 0 = other (b.arc a i) _ on (c.ends a m i i1 iD) in
@@ -109,7 +110,7 @@ module _ (N D d : ℕ) (ls : List Link) (s : IsSurvey N ls) (b : TreeBits) (c : 
     pub the_parent : parent_read D (arcs ls) b.arc a.child ≡ a.parent
     unfolding parent_read
     the_parent =
-        let e = arc_of N ls s a m in
+        let e = arc_of N ls (graph_of N ls s) a m in
         let x : 1 ≤ same a.child a.child = omega (arith, same_yes a.child a.child refl) in
         let y : 1 ≤ sum_to D (b.arc a) = omega (arith, sum_to_term D (b.arc a) i i1 iD) in
         sum_of_hot (arcs ls) (λ k. same k.child a.child * sum_to D (b.arc k)) (λ k. k.parent) a m (one-le-mul x y)
@@ -149,7 +150,7 @@ module _ (N D d : ℕ) (ls : List Link) (s : IsSurvey N ls) (b : TreeBits) (c : 
       found : 1 ≤ depth_read D b v → (a : Arc) × Memᴰ a (arcs ls) × (a.child ≡ v) × (1 ≤ b.arc a (depth_read D b v))
           → (1 ≤ parent_read D (arcs ls) b.arc v) × (parent_read D (arcs ls) b.arc v ≤ N) × (depth_read D b v ≡ suc (depth_read D b (parent_read D (arcs ls) b.arc v))) × (1 ≤ arcs_leading (arcs ls) (parent_read D (arcs ls) b.arc v) v)
       found n (a, m, e, on) =
-          let f = arc_of N ls s a m in
+          let f = arc_of N ls (graph_of N ls s) a m in
           let l = depth_le v p q in
           let k : parent_read D (arcs ls) b.arc v ≡ a.parent = ap (parent_read D (arcs ls) b.arc) (sym e) ∙ the_parent a m (depth_read D b v) n l on in
           let r = both_ends a m (depth_read D b v) n l on in (

@@ -8,6 +8,7 @@ use lib.ListN.{length}
 use lib.IntN.{ℤ, pos, ◌+ℤ◌}
 use Rattle.links.specs.declared.Link.{Link}
 use Rattle.links.specs.Survey.{IsSurvey}
+use Rattle.links.proofs.Graph.{graph_of}
 use Rattle.qubo.specs.Formula.{Formula, Bits, value}
 use Rattle.qubo.specs.Table.{constant_of}
 use Rattle.qubo.proofs.Families.{constant_append}
@@ -17,7 +18,7 @@ use Rattle.spanning.specs.Parents.{deepest}
 use Rattle.arcs.specs.Arcs.{Arc, arcs, depth_at, arc_at}
 use Rattle.arcs.specs.Formula.{root_term, depth_terms, entry_terms, end_terms, weight_terms}
 use Rattle.arcs.specs.Sums.{root_miss, depth_misses, entry_gaps, end_misses, arc_cost}
-use Rattle.arcs.proofs.Worth.{root_value, depths_value, entries_value_fact, ends_value, weights_value}
+use Rattle.arcs.proofs.Worth.{root_value, depths_value, entry_gaps_value, ends_value, weights_value}
 use Rattle.arcs.proofs.Constants.{root_constant, depths_constant, entries_constant, ends_constant, weights_constant}
 use Rattle.arcs.proofs.ArcLists.{arc_of}
 use Rattle.neighbours.specs.Formula.{count_at, count_terms, degree_terms, degree_gaps}
@@ -62,7 +63,7 @@ module _ (A N d : ℕ) (ls : List Link) where
   unfolding formula_to worth broken bits_of
   formula_value s x b =
       seven (λ f. value f x) (λ f g. value_append f g x) (root_term A N D ∷ []) (depth_terms A N D) (entry_terms A N D ks) (count_terms A N D M d) (degree_terms A N D M d ks) (end_terms A N D ks) (weight_terms N D ks) _ _ _ _ _ _ _
-      (root_value A N D x) (depths_value A N D x) (entries_value_fact A N D ks x) (counts_value A N D M d x) (degrees_value A N D M d ks (λ a m. (arc_of N ls s a m).apart) x) (ends_value A N D ks x b) (weights_value N D ks x)
+      (root_value A N D x) (depths_value A N D x) (entry_gaps_value A N D ks x) (counts_value A N D M d x) (degrees_value A N D M d ks (λ a m. (arc_of N ls (graph_of N ls s) a m).apart) x) (ends_value A N D ks x b) (weights_value N D ks x)
       ∙ ap pos (six_times A (root_miss N (depth_at D x)) (depth_misses N D (depth_at D x)) (entry_gaps N D ks (depth_at D x) (arc_at N D x)) (misses N d (count_at N D M d x)) (degree_gaps N D d ks (arc_at N D x) (count_at N D M d x)) (end_misses D ks (depth_at D x) (arc_at N D x)) (arc_cost D ks (arc_at N D x)))
 
   -- the constant: A for the single root, and A twice for each meter

@@ -7,6 +7,7 @@ ghost use Rattle.spanning.specs.Parents.{depth_of, at_most, neighbours, is_used}
 ghost use Rattle.tree.specs.Plans.{bit_of_depth, depth_choices, few_neighbours, is_plan, tree_weight};
 ghost use Rattle.tree.specs.Inner.{Counted};
 
+use arcs::Arcs;
 use links::{Link, Survey};
 
 /// Whether u is the parent of meter v. Ends of links are meters, so their parents are read with no further test.
@@ -18,12 +19,12 @@ pub fn is_parent(plan: &[u8], u: u8, v: u8) -> bool
 }
 
 // How many links join a meter to its parent; one that joins each of its ends to the other is counted twice.
-fn parent_links(survey: &Survey, plan: &[u8]) -> usize
-    requires { length plan.now ≡ survey.now.meters }
-    ensures { result ≡ sum_of survey.now.links.now (λ l. same (nth plan.now l.u) l.v + same (nth plan.now l.v) l.u) }
+fn parent_links(arcs: &Arcs, plan: &[u8]) -> usize
+    requires { length plan.now ≡ arcs.now.layout.meters }
+    ensures { result ≡ sum_of arcs.now.links.now (λ l. same (nth plan.now l.u) l.v + same (nth plan.now l.v) l.u) }
 {
     let mut count = 0;
-    for link in survey.links {
+    for link in arcs.links {
         let up = is_parent(plan, link.v, link.u);
         let down = is_parent(plan, link.u, link.v);
         count += (up as usize) + (down as usize);
@@ -40,7 +41,7 @@ fn is_used(plan: &[u8], link: &Link) -> bool
 }
 
 /// The weight of the tree: of the links that join a meter to its parent.
-pub fn tree_weight(survey: &Survey, plan: &[u8]) -> u64
+pub fn tree_weight(plan: &[u8], survey: &Survey) -> u64
     requires { length plan.now ≡ survey.now.meters }
     ensures { result ≡ tree_weight survey.now.links.now plan.now }
 {
@@ -53,7 +54,8 @@ pub fn tree_weight(survey: &Survey, plan: &[u8]) -> u64
     sum
 }
 
-// Which of its depth bits meter v has set, from 1: 1 more than its depth, and 0 in a ring of parents.
+// Which of its depth bits meter v has set, from 1: 1 more than its depth, and 0 in a ring of parents, as the code of
+// choices has it.
 fn depth_bit(plan: &[u8], v: usize, meters: usize) -> usize
     ensures { (result ≡ bit_of_depth (depth_of plan.now meters v)) × (result ≤ meters) }
 {
@@ -67,7 +69,7 @@ fn depth_bits(plan: &[u8], meters: usize) -> [u8; 256]
     ensures { (length result ≡ 256) × (take meters result ≡ depth_choices meters plan.now) }
 {
     let mut depths = [0; 256];
-    // By index: what a zipped `iter_mut` wrote is not told to a proof.
+    // By index: what an adapter of `iter_mut` wrote is not told to a proof.
     for v in 0..meters {
         depths[v] = depth_bit(plan, v + 1, meters) as u8;
     }
@@ -94,11 +96,13 @@ fn within_limit(children: &[u64], plan: &[u8], d: usize) -> bool
     (0..plan.len()).all(|v| neighbours_at(children, plan, v + 1) as usize <= d)
 }
 
-/// Where the bytes are a plan, the bits of its depths. With one root, all parents are linked neighbours exactly where meters - 1 links join a meter to its parent. Depths come last, since they take a walk up from each meter; no depth exceeds D, and none is that of a ring, where each bit is one of 1..D+1.
-pub fn plan_depths(survey: &Survey, d: usize, plan: &[u8]) -> Option<[u8; 256]>
-    ensures { MatchOption result (is_plan survey.now.meters d survey.now.links.now plan.now ≡ false) (λ depths. (is_plan survey.now.meters d survey.now.links.now plan.now ≡ true) × (length depths ≡ 256) × (take survey.now.meters depths ≡ depth_choices survey.now.meters plan.now)) }
+/// Where the bytes are a plan, the bits of its depths. With one root, all parents are linked neighbours exactly where
+/// meters - 1 links join a meter to its parent. Depths come last, since they take a walk up from each meter; no depth
+/// exceeds D, and none is that of a ring, where each bit is one of 1..D+1.
+pub fn plan_depths(arcs: &Arcs, d: usize, plan: &[u8]) -> Option<[u8; 256]>
+    ensures { MatchOption result (is_plan arcs.now.layout.meters d arcs.now.links.now plan.now ≡ false) (λ depths. (is_plan arcs.now.layout.meters d arcs.now.links.now plan.now ≡ true) × (length depths ≡ 256) × (take arcs.now.layout.meters depths ≡ depth_choices arcs.now.layout.meters plan.now)) }
 {
-    let meters = survey.meters;
+    let meters = arcs.layout.meters;
     if plan.len() != meters {
         return None;
     }
@@ -106,7 +110,7 @@ pub fn plan_depths(survey: &Survey, d: usize, plan: &[u8]) -> Option<[u8; 256]>
     if children[0] != 1 {
         return None;
     }
-    if parent_links(survey, plan) != meters - 1 {
+    if parent_links(arcs, plan) != meters - 1 {
         return None;
     }
     if !within_limit(&children, plan, d) {

@@ -1,10 +1,10 @@
 // Kind 3, tree: what its table is made for.
-ghost use Rattle.std.specs.Prelude.{◌≤◌, ◌≡◌};
+ghost use Rattle.std.specs.Prelude.{ℕ, ◌≤◌, ◌≡◌, List, length};
 
 use crate::{codes, plans, rows, sums};
-use arcs::Arcs;
-use links::Survey;
-use neighbours::Neighbours;
+use arcs::{Arcs, Layout};
+use links::{Link, Survey};
+use neighbours::{Counts, Neighbours};
 use qubo::{Decoded, Problem};
 
 /// A relay tree over a survey in which nobody has more than d neighbours, with the penalty A.
@@ -21,7 +21,9 @@ pub struct Tree<'a> {
 
 impl<'a> Tree<'a> {
     ghost use Rattle.spanning.specs.Parents.{deepest};
-    ghost use Rattle.tree.specs.Formula.{within_limits, penalty};
+    ghost use Rattle.links.specs.declared.Link.{Link};
+    ghost use Rattle.qubo.specs.Table.{constant_of};
+    ghost use Rattle.tree.specs.Formula.{within_limits, penalty, bit_count, formula};
 
     /// The least neighbour limit.
     pub const MIN: u64 = 1;
@@ -37,28 +39,71 @@ impl<'a> Tree<'a> {
     pub fn allows(meters: u64, d: u64) -> bool
         ensures { result ≡ within_limits meters d }
     {
-        Tree::MIN <= d && d <= Tree::MAX && Tree::FEWEST_METERS <= meters
+        (Tree::MIN..=Tree::MAX).contains(&d) && Tree::FEWEST_METERS <= meters
     }
 
-    /// A: 1 plus the sum of all weights.
+    /// A: 1 plus the sum of all weights, whatever the ends of the links are.
     #[tactic(auto, unfolding(crate::specs::Formula::penalty))]
-    pub fn own_penalty(survey: &Survey) -> u64
-        ensures { result ≡ penalty survey.now.links.now }
+    pub fn own_penalty(links: &[Link]) -> u64
+        requires { length links.now ≤ 256 }
+        ensures { result ≡ penalty links.now }
     {
-        1 + survey.total_weight()
+        1 + links::total_weight(links)
     }
 
-    // The arcs and the neighbour counts among whose bits those of the tree stand, with 01's D.
+    // Where the bits of depths and arcs stand, with 01's D.
+    pub(crate) fn layout(meters: usize) -> Layout
+        requires { meters ≤ 48 }
+        ensures meters { result.meters ≡ meters }
+        ensures deepest { result.deepest ≡ deepest meters }
+    {
+        Layout {
+            meters,
+            deepest: spanning::deepest(meters),
+        }
+    }
+
+    /// The number of bits, with so many links.
+    pub fn bit_count(meters: usize, links: usize, d: usize) -> usize
+        requires { (meters ≤ 48) × (links ≤ 256) × (d ≤ 47) }
+        ensures { (result ≡ bit_count meters links d) × (result ≤ 15744) }
+    {
+        let layout = Tree::layout(meters);
+        Counts { layout, links, d }.counts_end()
+    }
+
+    /// The constant, whatever the links and d are: A for the single root, and A for the depth and for the number of neighbours of each meter.
+    pub fn constant_of(meters: usize, penalty: u64) -> i64
+        requires { (meters ≤ 48) × (penalty ≤ 20000000) }
+        ensures { (d : ℕ) (ls : List Link) → result ≡ constant_of (formula penalty meters d ls) }
+    {
+        let sum = penalty * (1 + 2 * (meters as u64));
+        sum as i64
+    }
+
+    // The arcs among whose bits those of the tree stand.
+    fn arcs(&self) -> Arcs<'a>
+        ensures meters { result.layout.meters ≡ self.now.survey.meters }
+        ensures deepest { result.layout.deepest ≡ deepest self.now.survey.meters }
+        ensures links { result.links.now ≡ self.now.survey.links.now }
+    {
+        Arcs {
+            layout: Tree::layout(self.survey.meters),
+            links: self.survey.links,
+        }
+    }
+
+    // The same, with the neighbour counts.
     fn neighbours(&self) -> Neighbours<'a>
-        ensures survey { result.arcs.survey ≡ self.now.survey }
-        ensures deepest { result.arcs.deepest ≡ deepest self.now.survey.meters }
+        ensures meters { result.arcs.layout.meters ≡ self.now.survey.meters }
+        ensures deepest { result.arcs.layout.deepest ≡ deepest self.now.survey.meters }
+        ensures links { result.arcs.links.now ≡ self.now.survey.links.now }
         ensures d { result.d ≡ self.now.d }
     {
-        let arcs = Arcs {
-            survey: self.survey,
-            deepest: spanning::deepest(self.survey.meters),
-        };
-        Neighbours { arcs, d: self.d }
+        Neighbours {
+            arcs: self.arcs(),
+            d: self.d,
+        }
     }
 }
 
@@ -73,13 +118,11 @@ impl Problem for Tree<'_> {
         ensures value { result ≡ bit_count self.now.survey.meters (length self.now.survey.links.now) self.now.d }
         ensures most { result ≤ 15744 }
     {
-        self.neighbours().counts_end()
+        Tree::bit_count(self.survey.meters, self.survey.links.len(), self.d)
     }
 
-    // A for the single root, and A for the depth and for the number of neighbours of each meter.
     fn constant(&self) -> i64 {
-        let sum = self.penalty * (1 + 2 * (self.survey.meters as u64));
-        sum as i64
+        Tree::constant_of(self.survey.meters, self.penalty)
     }
 
     fn row_into(&self, i: usize, row: &mut [i64]) {
@@ -88,40 +131,33 @@ impl Problem for Tree<'_> {
 
     fn energy(&self, bits: &[u8]) -> i64 {
         let neighbours = self.neighbours();
-        let used = neighbours.arcs.count_used(bits);
+        let links = self.survey.links;
+        let used = neighbours.arcs.layout.count_used(links.len(), bits);
         let at_choices = sums::broken_choices(&neighbours, bits);
         let at_arcs = sums::broken_arcs(&neighbours, bits, &used);
-        let cost = neighbours.arcs.arc_cost(&used);
+        let cost = arcs::arc_cost(links, &used);
         let sum = self.penalty * (at_choices + at_arcs) + cost;
         sum as i64
     }
 
-    // Depths take a walk up from each meter, so they are found once for the test and the code.
     fn encode(&self, plan: &[u8], bits: &mut [u8]) -> bool {
-        let Some(depths) = plans::plan_depths(&self.survey, self.d, plan) else {
-            return false;
-        };
-        codes::encode(
-            &self.neighbours(),
-            plan,
-            &depths[..self.survey.meters],
-            bits,
-        );
-        true
+        codes::encode_plan(self.survey.meters, self.survey.links, self.d, plan, bits)
     }
 
-    // There is a plan exactly where all sums that A multiplies are 0, and it is then read off the arcs. The sums that look at no arc come first: they have few bits, and bits that are no code seldom pass them.
+    // There is a plan exactly where all sums that A multiplies are 0, and it is then read off the arcs. The sums that
+    // look at no arc come first: they have few bits, and bits that are no code seldom pass them.
     fn decode(&self, bits: &[u8], plan: &mut [u8]) -> Option<Decoded> {
         let neighbours = self.neighbours();
         if sums::broken_choices(&neighbours, bits) != 0 {
             return None;
         }
-        let used = neighbours.arcs.count_used(bits);
+        let links = self.survey.links;
+        let used = neighbours.arcs.layout.count_used(links.len(), bits);
         if sums::broken_arcs(&neighbours, bits, &used) != 0 {
             return None;
         }
         codes::read_parents(&neighbours.arcs, bits, &used, plan);
-        let weight = plans::tree_weight(&self.survey, plan);
+        let weight = plans::tree_weight(plan, &self.survey);
         Some(Decoded {
             weight,
             repaired: 0,

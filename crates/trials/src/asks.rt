@@ -1,4 +1,5 @@
-// Calls that may be refused: image, kind, parameter, margin, row, lengths and bits are each drawn right or wrong. Every call has to give the refusal that comes first, and to alter nothing where it is refused.
+// Calls that may be refused: image, kind, parameter, margin, row, lengths and bits are each drawn right or wrong. Every
+// call has to give the refusal that comes first, and to alter nothing where it is refused.
 use crate::calls::Ask;
 use crate::cases::Case;
 use crate::draws::Draws;
@@ -85,6 +86,7 @@ enum Damage {
 }
 
 /// One of the margins.
+// Two functions of a line, and no parameter: 16 and 12 are how many there are and how many are accepted.
 pub fn draw_margin(draws: &mut Draws) -> u64 {
     MARGINS[draws.below(16)]
 }

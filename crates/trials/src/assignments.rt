@@ -83,6 +83,7 @@ impl Case<'_> {
     }
 
     /// Whether decode gives the plan, or the refusal and leaves the plan unaltered.
+    // Reads like `encode_agrees`, but for what is lent and what an answer has: generic in both it would be longer.
     fn decode_agrees(&self, bits: &Code, energy: u64, expected: Result<(), Refusal>) -> bool {
         let mut plan = [PATTERN; LIST_LEN];
         let lent = front_mut(&mut plan, self.lent_plan);
@@ -157,6 +158,7 @@ impl Case<'_> {
 
     /// An assignment with each one of its bits flipped.
     pub fn compare_flipped(&self, bits: &Code, counts: &mut Counts) {
+        // By index: each assignment differs from the others at one place.
         for i in 0..self.bits.min(ROOM) {
             let mut other = *bits;
             other[i] = u8::from(bits[i] == 0);

@@ -6,10 +6,11 @@ pub use plans::{
     Ask, Decoded, Refusal, bit_count, constant, decode, encode, energy, fill_row, penalty, row,
     row_refusal,
 };
-use site::NO_LINK;
+use site::NO_LINKS;
 pub use site::check;
 
-/// What was read out of an image: the meters, and the links in the first `count` places. Fixed places, as the library takes them: a `Vec` would want an allocator all the way down.
+/// What was read out of an image: the meters, and the links in the first `count` places. Fixed places, as the library
+/// takes them: a `Vec` would want an allocator all the way down.
 #[derive(Drop)]
 pub struct Reading {
     pub meters: usize,
@@ -33,7 +34,7 @@ pub fn edit(image: &mut [u8], edit: Edit) -> Result<(), Refusal> {
 
 /// Reads the image.
 pub fn read(image: &[u8]) -> Result<Reading, Refusal> {
-    let mut links = [NO_LINK; 256];
+    let mut links = NO_LINKS;
     let read = site::read(image, &mut links)?;
     Ok(Reading {
         meters: read.meters,

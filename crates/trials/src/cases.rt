@@ -1,4 +1,5 @@
-// The cases of a site. One with few bits is compared at every assignment, a larger one at the codes of all plans, these with one bit flipped, and random assignments.
+// The cases of a site. One with few bits is compared at every assignment, a larger one at the codes of all plans, these
+// with one bit flipped, and random assignments.
 use crate::assignments::Least;
 use crate::calls::{Ask, Refusal};
 use crate::counts::{Counts, Subject};
@@ -91,7 +92,8 @@ impl<'a> Case<'a> {
         }
     }
 
-    /// Whether more than bit count, penalty and constant is compared: of small cases and, of three meters or more, of those with a parameter up to 4, of groups up to 5.
+    /// Whether more than bit count, penalty and constant is compared: of small cases and, of three meters or more, of
+    /// those with a parameter up to 4, of groups up to 5.
     fn is_chosen(&self) -> bool {
         if self.accepted.is_err() {
             return false;
@@ -141,7 +143,8 @@ impl<'a> Case<'a> {
     }
 }
 
-/// How many bits there are. A kind that is refused has no bit count: the draws for it go by the bits that a tree has without those that count neighbours, or by none.
+/// How many bits there are. A kind that is refused has no bit count: the draws for it go by the bits that a tree has
+/// without those that count neighbours, or by none.
 fn bits_of(site: &Site, ask: Ask, kind: Option<Kind>) -> usize {
     match kind {
         Some(kind) => site.bit_count(kind),

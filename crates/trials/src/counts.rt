@@ -102,7 +102,8 @@ impl Counts {
     /// One call of a subject that is expected to succeed, or to be refused.
     pub fn called(&mut self, subject: Subject, expected: Result<(), Refusal>, agrees: bool) {
         self.compared(subject, agrees);
-        // 0 is no refusal, as the stored output counts it.
+        // 0 is no refusal, as the stored output counts it. Two arms, as in meterplan and surveys: a function of `site` for
+        // them would be one more public promise.
         let number = match expected {
             Ok(()) => 0,
             Err(refusal) => refusal.number() as usize,

@@ -1,4 +1,5 @@
-// Two large sites, with 4,000 random edits each, whose draws begin with the same seed. Every hundred edits the bit counts of all kinds are compared too: no small site has more than 8,192 bits, and large ones have more or less.
+// Two large sites, with 4,000 random edits each, whose draws begin with the same seed. Every hundred edits the bit
+// counts of all kinds are compared too: no small site has more than 8,192 bits, and large ones have more or less.
 use crate::calls::{self, Ask, Refusal};
 use crate::counts::{Counts, Subject};
 use crate::draws::Draws;
@@ -11,7 +12,8 @@ const EDITS: usize = 4000;
 
 const MOST_BITS: usize = 8192;
 
-/// One of 64 edits begins, with one of the 13 numbers of meters from `least` on, 23 remove and 40 add. The ends are 0 to one above the meters. Weight 0 stands in for every weight that 16 divides.
+/// One of 64 edits begins, with one of the 13 numbers of meters from `least` on, 23 remove and 40 add. The ends are 0 to
+/// one above the meters. Weight 0 stands in for every weight that 16 divides.
 fn draw_large(draws: &mut Draws, meters: usize, least: usize) -> Edit {
     let ends = meters.wrapping_add(2);
     let way = draws.below(64);
@@ -53,7 +55,7 @@ fn compare_count(twins: &Twins, links: usize, ask: Ask, counts: &mut Counts) {
     counts.called(Subject::Tables, expected.map(|_| ()), given == expected);
 }
 
-/// Those of kinds 0 to 3 with parameters 0 to 63, each with a drawn margin.
+/// Compares the bit counts of kinds 0 to 3 with parameters 0 to 63, each with a drawn margin.
 fn compare_counts(twins: &Twins, run: &mut Run) {
     let links = twins.matrix.count();
     for kind in 0..4 {

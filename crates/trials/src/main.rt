@@ -1,7 +1,12 @@
-// Draws small sites at random, the same on every run, makes each with the public calls, and compares every answer of the library with `reference`, a second implementation that shares no code with it.
+// Draws small sites at random, the same on every run, makes each with the public calls, and compares every answer of the
+// library with `reference`, a second implementation that shares no code with it.
 // Then makes 8,000 random edits of two large sites (large.rt), one of 12 meters at first and of other numbers later, and one of 48, which fills up.
-// Each edit, of small sites and of large ones, is compared with a plain matrix of weights (edits.rt): what it is refused for, if it is, that it alters no byte where it is refused, and how `site` checks and reads the image after it. Of the large ones the bit counts of all kinds are compared now and then, and with them the refusal of too many bits.
-// What the stored output holds against the papers is that nothing differs; its counts keep the comparison from becoming an empty one, and a separate model of the papers and of the draws gives the same for the random sites and edits; those of threes.rt can be worked out.
+// Each edit, of small sites and of large ones, is compared with a plain matrix of weights (edits.rt): what it is refused
+// for, if it is, that it alters no byte where it is refused, and how `site` checks and reads the image after it. Of the
+// large ones the bit counts of all kinds are compared now and then, and with them the refusal of too many bits.
+// What the stored output holds against the papers is that nothing differs; its counts keep the comparison from becoming
+// an empty one, and a separate model of the papers and of the draws gives the same for the random sites and edits; those
+// of threes.rt can be worked out.
 // All calls of the library stand in calls.rt.
 #![tactic(auto)]
 

@@ -1,4 +1,5 @@
-// A second implementation of a site, which shares nothing with `site` but what a link and a refusal are called: the weights in a plain matrix, 0 where there is no link.
+// A second implementation of a site, which shares nothing with `site` but what a link and a refusal are called: the
+// weights in a plain matrix, 0 where there is no link.
 ghost use Rattle.std.specs.Prelude.{◌<◌, ◌≤◌, IfSome};
 
 use crate::calls::{Link, Refusal};

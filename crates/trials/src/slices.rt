@@ -10,7 +10,7 @@ pub type List = [u8; LIST_LEN];
 /// What buffers hold before a call, to see what the call leaves.
 pub const PATTERN: u8 = 170;
 
-/// The same, of numbers.
+/// What buffers of numbers hold before a call.
 pub const NUMBER_PATTERN: i64 = 1234567;
 
 /// The first n places, or all where there are fewer.

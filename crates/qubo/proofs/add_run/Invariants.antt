@@ -7,4 +7,4 @@ use Rattle.qubo.proofs.add_run.Given as goal
 
 abbrev pub invariant-loop-t : goal.invariant-loop-t
 invariant-loop-t l =
-    l.row ≡ add_terms (times l.v l.i (bits (pos 1) l.t (run_bit l.run)) ∷ []) l.i l.initial.row
+    l.row ≡ add_terms (times l.coefficient l.i (bits (pos 1) l.t (run_bit l.run)) ∷ []) l.i l.initial.row

@@ -4,4 +4,4 @@ use Rattle.site.specs.Inner.{walk_free}
 use Rattle.site.proofs.rules.frees_ok.Given as goal
 
 abbrev pub invariant-loop : goal.invariant-loop
-invariant-loop l = walk_free l.s l.count (first_free l.s) ≡ walk_free l.s (l.count - l.counter) l.k
+invariant-loop l = walk_free l.image l.count (first_free l.image) ≡ walk_free l.image (l.count - l.counter) l.number

@@ -1,7 +1,7 @@
 use mathlib.Core.Path.{refl}
 use native.Mathlib.Omega.{arith}
 use Rattle.tree.proofs.Filling.{depths_length, arc_choices_length, counts_length}
-use Rattle.tree.proofs.Placing.{code_asks, code_given, plan_length, depths_in_fact, arcs_in, counts_in_fact, bits_first, bits_second, bits_third, code_whole}
+use Rattle.tree.proofs.Placing.{code_asks, code_given, plan_length, depths_within, arcs_in, counts_within, bits_first, bits_second, bits_third, code_whole}
 use Rattle.tree.proofs.codes.encode.Goals as goal
 
 pub arc_choices-chosen-requires : goal.arc_choices-chosen-requires
@@ -13,12 +13,12 @@ arc_choices-chosen-requires c =
 pub neighbour_choices-counts-requires : goal.neighbour_choices-counts-requires
 neighbour_choices-counts-requires c =
     let p = c.requires in
-    omega (arith, plan_length _ _ _ _ _ p.deepest p.plan, c.args.neighbours.now.arcs.survey.meters_high)
+    omega (arith, plan_length _ _ _ _ _ p.deepest p.plan, c.args.arcs.now.layout.meters_high)
 
 pub encode_part-requires : goal.encode_part-requires
 encode_part-requires c =
     let p = c.requires in
-    rw c.depth_width.ensures (code_asks _ _ _ p.depths _ (depths_length _ _) (depths_in_fact _ _ _ _ _ p.deepest p.plan) 0 _ (omega (arith, bits_first _ _ _ _ _ p.deepest p.bits)))
+    rw c.depth_width.ensures (code_asks _ _ _ p.depths _ (depths_length _ _) (depths_within _ _ _ _ _ p.deepest p.plan) 0 _ (omega (arith, bits_first _ _ _ _ _ p.deepest p.bits)))
 
 pub encode_part-requires-2 : goal.encode_part-requires-2
 encode_part-requires-2 c =
@@ -30,7 +30,7 @@ pub encode_part-requires-3 : goal.encode_part-requires-3
 encode_part-requires-3 c =
     let p = c.requires in
     let size = plan_length _ _ _ _ _ p.deepest p.plan in
-    rw (c.arcs_end.ensures.0) (code_asks _ _ _ (rw size at c.neighbour_choices-counts.ensures.1) _ (counts_length _ _) (counts_in_fact _ _ _ _ _ p.deepest p.plan) _ _ (omega (arith, bits_third _ _ _ _ _ p.deepest p.bits, c.encode_part.auto, c.encode_part-2.auto)))
+    rw (c.arcs_end.ensures.0) (code_asks _ _ _ (rw size at c.neighbour_choices-counts.ensures.1) _ (counts_length _ _) (counts_within _ _ _ _ _ p.deepest p.plan) _ _ (omega (arith, bits_third _ _ _ _ _ p.deepest p.bits, c.encode_part.auto, c.encode_part-2.auto)))
 
 pub returns : goal.returns
 returns c =

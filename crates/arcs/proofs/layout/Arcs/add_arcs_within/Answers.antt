@@ -8,11 +8,11 @@ pub add_arcs-requires : goal.add_arcs-requires
 add_arcs-requires c =
     let low = c.if-depth-ge1.true in
     let high = c.if-depth-self.true in
-    (c.requires.0, low, high, rw (to_z-of_z c.ranges.v) (into_room _ _ _ _ _ _ _ _ _ low high c.requires.1), (omega arith, λ k h. absurd (omega arith)))
+    (c.requires.0, low, high, rw (to_z-of_z c.ranges.factor) (into_room _ _ _ _ _ _ _ _ _ low high c.requires.1), (omega arith, λ k h. absurd (omega arith)))
 
 pub returns-then-depth-self : goal.returns-then-depth-self
 returns-then-depth-self c =
-    within_added _ _ _ _ _ _ _ _ _ c.if-depth-ge1.true c.if-depth-self.true _ (rw (to_z-of_z c.ranges.v) at c.add_arcs.ensures)
+    within_added _ _ _ _ _ _ _ _ _ c.if-depth-ge1.true c.if-depth-self.true _ (rw (to_z-of_z c.ranges.factor) at c.add_arcs.ensures)
 
 pub returns-else-depth-ge1 : goal.returns-else-depth-ge1
 returns-else-depth-ge1 c = elim c.else-depth-ge1.branch [

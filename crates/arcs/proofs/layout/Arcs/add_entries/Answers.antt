@@ -1,7 +1,7 @@
 use Prim.Native.Nat.{◌*◌}
 use lib.IntN.{pos}
 use native.Mathlib.Omega.{arith}
-use Rattle.links.proofs.Walk.{is_survey}
+use Rattle.arcs.proofs.Graph.{graph}
 use Rattle.arcs.proofs.ArcLists.{arc_of}
 use Rattle.arcs.proofs.EntryRows.{depth_held, depth_entry, root_entry, arc_held, arc_link, arc_under, arc_entry, behind_entry}
 use Rattle.arcs.proofs.Signed.{opposite_is, plain}
@@ -23,7 +23,7 @@ add_entry-requires c =
 pub add_entry-requires-in-OfArc : goal.add_entry-requires-in-OfArc
 add_entry-requires-in-OfArc c =
     let a = plain (2 * c.args.penalty) (omega (arith, c.requires.1.penalty)) in
-    let s = is_survey c.args.self.now.survey in
+    let s = graph c.args.self.now in
     let is = rw c.in-OfArc.is at c.requires.0 in
     let o = arc_of _ _ s _ is.among in (
       c.requires.1,
@@ -44,7 +44,7 @@ returns-else-depth-gt0 c = let is = rw c.in-OfDepth.is at c.requires.0 in root_e
 
 pub returns-in-OfArc : goal.returns-in-OfArc
 returns-in-OfArc c =
-    let is = rw c.in-OfArc.is at c.requires.0 in arc_entry _ _ _ _ (is_survey c.args.self.now.survey) _ _ _ is _ _ c.add_entry-in-OfArc.ensures
+    let is = rw c.in-OfArc.is at c.requires.0 in arc_entry _ _ _ _ (graph c.args.self.now) _ _ _ is _ _ c.add_entry-in-OfArc.ensures
 
 pub returns-in-Behind : goal.returns-in-Behind
 returns-in-Behind c = behind_entry _ _ _ _ _ (rw c.in-Behind.is at c.requires.0) _

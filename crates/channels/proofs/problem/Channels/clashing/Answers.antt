@@ -3,7 +3,7 @@ use Rattle.lists.proofs.Walks.{summed_turn, summed_end}
 use Rattle.links.specs.Links.{nothing, link_in}
 use Rattle.links.proofs.Walk.{is_survey}
 use Rattle.onehot.proofs.Ends.{ends_fit}
-use Rattle.onehot.proofs.LinkSums.{bits_small, bits_link_fact, bits_room}
+use Rattle.onehot.proofs.LinkSums.{bits_small, bits_link_value, bits_room}
 use Rattle.channels.proofs.Asking.{lent}
 use Rattle.channels.proofs.Clashing.{clashing_sum, both_bits}
 use Rattle.channels.proofs.problem.Channels.clashing.Goals as goal
@@ -23,7 +23,7 @@ overflow_add-sum c = omega (arith, room c)
 
 pub loop-link-preserved : goal.loop-link-preserved
 loop-link-preserved c =
-    summed_turn _ _ nothing _ _ c.loop-link.invariant c.loop-link-test.true _ (bits_link_fact ◌*◌ _ _ c.args.self.now.survey.links.now c.loop-link.link-index _ c.shared.ensures)
+    summed_turn _ _ nothing _ _ c.loop-link.invariant c.loop-link-test.true _ (bits_link_value ◌*◌ _ _ c.args.self.now.survey.links.now c.loop-link.link-index _ c.shared.ensures)
 
 pub returns-clause-value : goal.returns-clause-value
 returns-clause-value c = summed_end _ _ _ _ c.loop-link.invariant (omega arith) ∙ clashing_sum _ _ _

@@ -3,7 +3,7 @@ use lib.ListN.{length-append}
 use Rattle.lists.specs.Sums.{sum_to, nth}
 use Rattle.onehot.proofs.Parts.{cut_count}
 use Rattle.channels.specs.Repair.{repaired}
-use Rattle.channels.proofs.Chunks.{chunk_turn, chunk_end}
+use Rattle.onehot.proofs.Chunks.{chunk_turn, chunk_end}
 use Rattle.channels.proofs.Channel.{repaired_zero, repaired_more, repaired_same}
 use Rattle.channels.proofs.problem.Channels.repaired_count.Goals as goal
 

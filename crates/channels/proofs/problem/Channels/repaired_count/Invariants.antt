@@ -1,6 +1,6 @@
 use Rattle.std.proofs.Common.{◌≤◌, ◌≡◌, length}
 use Rattle.channels.specs.Repair.{repaired}
-use Rattle.channels.proofs.Chunks.{ChunksTo}
+use Rattle.onehot.proofs.Chunks.{ChunksTo}
 use Rattle.channels.proofs.problem.Channels.repaired_count.Given as goal
 
 abbrev pub invariant-loop-part : goal.invariant-loop-part

@@ -6,8 +6,7 @@ use Rattle.groups.proofs.problem.Groups.is_plan.Goals as goal
 
 pub members_spread-requires : goal.members_spread-requires
 members_spread-requires c =
-    let g = c.args.self.now in
-    (omega (arith, (choices_are _ _ _ (sym c.are_choices.ensures ∙ c.if-are_choices.true)).size, g.survey.meters_high), omega (arith, g.high))
+    (omega (arith, (choices_are _ _ _ (sym c.are_choices.ensures ∙ c.if-are_choices.true)).size, c.requires.0), omega (arith, c.requires.1))
 
 pub returns-then-are_choices : goal.returns-then-are_choices
 returns-then-are_choices c =

@@ -1,32 +1,30 @@
-use mathlib.Core.Path.{refl, ◌∙◌}
-use mir.Facts.{to_z-of_z}
-use native.Mathlib.Omega.{arith}
-use Rattle.qubo.proofs.Turns.{fits_less}
+use Rattle.std.proofs.Common.{◌+◌, ◌<◌, length, arith, refl}
+use Rattle.lists.proofs.Rest.{rest_length, rest_at}
+use Rattle.links.specs.Links.{nothing}
 use Rattle.neighbours.proofs.DegreeParts.{touched_start, touched_ready, touched_turn, touched_end}
 use Rattle.neighbours.proofs.counts.Neighbours.add_touching.Goals as goal
 
 pub loop-k-init : goal.loop-k-init
-loop-k-init c =
-    let a = c.args.self.now.arcs in
-    rw (to_z-of_z c.ranges.q) (touched_start _ _ _ _ _ a.survey.few a.shallow _ _ c.requires.1 _ c.requires.2 c.requires.3)
+loop-k-init c = touched_start c.args.self.now c.args.meter c.requires
 
 pub add_link-requires : goal.add_link-requires
 add_link-requires c =
-    let a = c.args.self.now.arcs in
     let l = c.loop-k in
-    rw (to_z-of_z c.ranges.q, to_z-of_z (fits_less c.args.q (omega (arith, c.requires.1.factor))))
-    (touched_ready _ _ _ _ _ a.survey.few a.shallow _ _ c.requires.1 l.row l.k (rw (to_z-of_z c.ranges.q) at l.invariant) c.loop-k-test.true c.requires.0)
+    let n = c.args.self.now in
+    let ls = n.arcs.links.now in
+    let inside : c.args.from + l.k < length ls = omega (arith, c.loop-k-test.true, rest_length ls c.args.from c.requires.2) in
+    touched_ready n c.args.meter c.requires l.k l.invariant (refl, inside, rest_at ls c.args.from c.requires.2 nothing l.k c.loop-k-test.true)
 
 pub loop-k-preserved : goal.loop-k-preserved
 loop-k-preserved c =
-    let a = c.args.self.now.arcs in
     let l = c.loop-k in
-    rw (to_z-of_z c.ranges.q)
-    (touched_turn _ _ _ _ _ a.survey.few a.shallow _ _ c.requires.1 l.row l.k (rw (to_z-of_z c.ranges.q) at l.invariant) c.loop-k-test.true _
-    (c.add_link.ensures ∙ rw (to_z-of_z c.ranges.q, to_z-of_z (fits_less c.args.q (omega (arith, c.requires.1.factor)))) refl))
+    let n = c.args.self.now in
+    let ls = n.arcs.links.now in
+    let inside : c.args.from + l.k < length ls = omega (arith, c.loop-k-test.true, rest_length ls c.args.from c.requires.2) in
+    touched_turn n c.args.meter c.requires l.k l.invariant (refl, inside, rest_at ls c.args.from c.requires.2 nothing l.k c.loop-k-test.true) c.add_link.ensures
 
 pub returns : goal.returns
 returns c =
-    let a = c.args.self.now.arcs in
     let l = c.loop-k in
-    touched_end _ _ _ _ _ a.survey.few a.shallow _ _ c.requires.1 l.row l.k (rw (to_z-of_z c.ranges.q) at l.invariant) (omega arith)
+    let n = c.args.self.now in
+    touched_end n c.args.meter c.requires l.k l.invariant (omega (arith, c.loop-k-test.false, rest_length n.arcs.links.now c.args.from c.requires.2))

@@ -4,7 +4,7 @@ use Rattle.neighbours.proofs.counts.Neighbours.degree_gaps.Goals as goal
 
 pub gather_touches-sums-requires : goal.gather_touches-sums-requires
 gather_touches-sums-requires c =
-    let p = c.requires in (p.1.size, used_low _ _ _ _ _ c.args.self.now.arcs.shallow p.0.bits p.1)
+    let p = c.requires in (p.1.size, used_low _ _ _ _ _ c.args.self.now.arcs.layout.shallow p.0.bits p.1)
 
 pub returns : goal.returns
 returns c =

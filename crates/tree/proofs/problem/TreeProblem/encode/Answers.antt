@@ -1,10 +1,11 @@
-use Rattle.tree.proofs.Placing.{coded_none, coded_plan}
+use Rattle.links.proofs.Graph.{graph_of}
+use Rattle.links.proofs.Walk.{is_survey}
+use Rattle.qubo.specs.Decoding.{code_after}
 use Rattle.tree.proofs.problem.TreeProblem.encode.Goals as goal
 
-pub returns-in_default-clause-bits : goal.returns-in_default-clause-bits
-returns-in_default-clause-bits c = coded_none _ _ _ c.args.self.now.penalty _ _ c.in_default.ensures
+pub encode_plan-requires-clause-graph : goal.encode_plan-requires-clause-graph
+encode_plan-requires-clause-graph c = graph_of _ _ (is_survey c.args.self.now.survey)
 
 pub returns-clause-bits : goal.returns-clause-bits
-returns-clause-bits c =
-    let n = c.neighbours.ensures in
-    coded_plan _ _ _ c.args.self.now.penalty _ _ _ c.in-Some.ensures.0 (rw (n.survey, n.d) at c.encode.ensures)
+unfolding code_after
+returns-clause-bits c = c.encode_plan.ensures.bits

@@ -1,7 +1,0 @@
-use Prim.Native.Nat.{◌≤◌, ◌*◌}
-use lib.ListN.{length}
-use Rattle.arcs.proofs.Summing.{CostTo}
-use Rattle.arcs.proofs.layout.Arcs.arc_cost.Given as goal
-
-abbrev pub invariant-loop-link : goal.invariant-loop-link
-invariant-loop-link l = CostTo l.used l.self.survey.links.now (length l.yielded) l.sum × (l.sum ≤ 3145680 * length l.yielded) × (length l.yielded ≤ length l.self.survey.links.now)

@@ -1,5 +1,0 @@
-use Rattle.arcs.proofs.LinkBits.{CountedTo}
-use Rattle.arcs.proofs.layout.Arcs.count_used.Given as goal
-
-abbrev pub invariant-loop-k : goal.invariant-loop-k
-invariant-loop-k l = CountedTo l.self.survey.meters l.self.deepest l.bits l.k l.used
