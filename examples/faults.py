@@ -1,9 +1,9 @@
 #!/usr/bin/env python3
-"""Runs the printing program against outputs and inputs that fail: what arrives is the whole table, with nothing on standard error, or a front part of it, with the message there.
+"""Runs the printing program against outputs and inputs that fail: what arrives is the whole table, with nothing on standard error, or a front part of it, with the message there. Then `surveys` against an input that fails: it prints nothing. Both with little memory, of which they ask for none.
 
-    examples/faults.py crates/print_table/out/print_table target/libmeterplan.so target/examples/faulty.so
+    examples/faults.py crates/print_table/out/print_table target/libmeterplan.so target/examples/faulty.so crates/surveys/out/surveys
 
-The whole table is that of the C interface, row by row. Prints a line for each case, and stops with status 1 at the first in which something else is found.
+The whole table is that of the C interface, row by row; what `surveys` prints is its stored output. Prints a line for each case, and stops with status 1 at the first in which something else is found.
 """
 import contextlib
 import ctypes
@@ -15,10 +15,13 @@ import sys
 import tempfile
 import time
 
-PROGRAM, LIBRARY, FAULTY = sys.argv[1:]
+PROGRAM, LIBRARY, FAULTY, SURVEYS = sys.argv[1:]
 INCOMPLETE = b"print_table: output failed: incomplete table\n"
 NO_INPUT = b"print_table: input failed: no table\n"
 PIPE = 65536
+
+# For what a program writes to outside its stack: neither asks for any, and the C library has some 100 KB of its own.
+LITTLE_MEMORY = 170 * 1024
 
 
 def large_input():
@@ -35,17 +38,19 @@ def large_input():
 INPUT = large_input()
 
 
-def start(out, source=subprocess.PIPE, closed=None, ignored=None, most=None, **settings):
-    """The program: with another input than the large one, with a descriptor closed, a signal ignored, a limit on the size of files, or settings of the environment."""
+def start(out, source=subprocess.PIPE, closed=None, ignored=None, most=None, memory=None, program=PROGRAM, **settings):
+    """The program: with another input than the large one, with a descriptor closed, a signal ignored, a limit on the size of files or on memory, or settings of the environment; or another program."""
     def prepare():
         if ignored is not None:
             signal.signal(ignored, signal.SIG_IGN)
         if most is not None:
             resource.setrlimit(resource.RLIMIT_FSIZE, (most, most))
+        if memory is not None:
+            resource.setrlimit(resource.RLIMIT_DATA, (memory, memory))
         if closed is not None:
             os.close(closed)
 
-    child = subprocess.Popen([PROGRAM], stdin=source, stdout=out, stderr=subprocess.PIPE, env=settings, preexec_fn=prepare)
+    child = subprocess.Popen([program], stdin=source, stdout=out, stderr=subprocess.PIPE, env=settings, preexec_fn=prepare)
     if source == subprocess.PIPE and closed != 0:
         child.stdin.write(INPUT)
         child.stdin.close()
@@ -201,6 +206,7 @@ def main():
         ("from a non-blocking pipe whose writer stops", "no input", lambda: from_pipe(INPUT[:1000], None)),
         ("from a directory", "no input", from_directory),
         ("from a closed input", "no input", lambda: to_file(closed=0)),
+        ("with little memory", "whole", lambda: to_file(memory=LITTLE_MEMORY)),
     ]
     for name, expected, run in cases:
         arrived, said, status = run()
@@ -208,6 +214,40 @@ def main():
         if found != expected:
             sys.exit(f"print_table {name}: {found}, where {expected} was expected; {len(arrived)} of {len(table)} bytes arrived")
         print(f"print_table {name}: {found}, {len(arrived)} of {len(table)} bytes: as expected")
+    try_surveys()
+
+
+def try_surveys():
+    """It reads its whole input before it carries out a line, and allocates nothing."""
+    with open("crates/surveys/stdin", "rb") as file:
+        lines = file.read()
+    with open("crates/surveys/stdout", "rb") as file:
+        answers = file.read()
+    cases = [
+        ("from a non-blocking pipe whose writer stops", b"", 1, lambda: from_stopped_pipe(lines)),
+        ("with little memory", answers, 0, lambda: from_lines(memory=LITTLE_MEMORY)),
+    ]
+    for name, expected, wanted, run in cases:
+        arrived, said, status = run()
+        if (arrived, status) != (expected, wanted):
+            sys.exit(f"surveys {name}: status {status}, said {said}; {len(arrived)} of {len(expected)} bytes arrived")
+        print(f"surveys {name}: status {status}, {len(arrived)} of {len(expected)} bytes: as expected")
+
+
+def from_stopped_pipe(lines):
+    """All lines can be read at once, and the next read fails: the pipe stays open."""
+    front, back = os.pipe()
+    os.set_blocking(front, False)
+    os.write(back, lines)
+    found = to_file(source=front, program=SURVEYS)
+    os.close(front)
+    os.close(back)
+    return found
+
+
+def from_lines(**how):
+    with open("crates/surveys/stdin", "rb") as file:
+        return to_file(source=file, program=SURVEYS, **how)
 
 
 main()

@@ -14,6 +14,7 @@ pub mod Bound
 pub mod Slices
 pub mod LinkBits
 pub mod ArcSums
+pub mod Endless
 pub mod Summing
 pub mod Entered
 pub mod Graph

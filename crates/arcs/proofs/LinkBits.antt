@@ -2,11 +2,13 @@
 use Prim.Native.Nat.{ℕ, suc, pred, ◌+◌, ◌*◌, ◌≤◌, ◌<◌}
 use mathlib.Core.Path.{◌≡◌, refl, ap, ◌∙◌}
 use mathlib.Core.List.{List}
-use lib.ListN.{length, get_or}
+use lib.ListN.{length, get_or, replicate, length-replicate}
 use native.Mathlib.Omega.{arith}
+use native.Mathlib.Decide.{dec_lt}
 use native.Mathlib.Nat.{mul-le-mul_right}
 use Rattle.lists.specs.Sums.{sum_to, nth}
 use Rattle.lists.proofs.Sums.{sum_to_eq, sum_to_term, sum_to_split, sum_to_bits}
+use Rattle.lists.proofs.Stores.{zero_entries}
 use Rattle.links.specs.declared.Link.{Link}
 use Rattle.qubo.specs.Formula.{Bits}
 use Rattle.arcs.specs.Arcs.{arcs_end, arc_at}
@@ -58,7 +60,24 @@ none_set N D x k z i p q =
 pub record CountedTo (N D : ℕ) (x : List ℕ) (k : ℕ) (used : List ℕ) : Type 0 where
   pub size : length used ≡ 256
   pub done : (j : ℕ) → j < k → get_or used j 0 ≡ link_set N D x j
+  pub rest : (j : ℕ) → k ≤ j → get_or used j 0 ≡ 0
+
+-- n places with a in each, where a is 0
+zero_places : (n a m : ℕ) → a ≡ 0 → get_or (replicate n a) m 0 ≡ 0
+zero_places n a m z = rw z (zero_entries n m)
+
+-- it starts with 0 in every place
+pub counted_start : (N D : ℕ) (x : List ℕ) (a : ℕ) → a ≡ 0 → CountedTo N D x 0 (replicate 256 a)
+counted_start N D x a z = record { size = length-replicate 256 a; done = λ j h. absurd (omega arith); rest = λ j h. zero_places 256 a j z }
 
 -- no count is above 48
 pub used_low : (N D M : ℕ) (x used : List ℕ) → D ≤ 24 → Bits x → Used N D M x used → (k : ℕ) → k < M → get_or used k 0 ≤ 48
 used_low N D M x used d b u k h = omega (arith, u.each k h, link_set_low N D k x d b)
+
+-- in any place, where those behind the last link are 0
+pub used_low_all : (N D M : ℕ) (x used : List ℕ) → D ≤ 24 → Bits x → Used N D M x used → ((k : ℕ) → M ≤ k → get_or used k 0 ≡ 0) → (k : ℕ) → get_or used k 0 ≤ 48
+used_low_all N D M x used d b u z k =
+    elim (dec_lt k M) [
+      | yes h ↦ used_low N D M x used d b u k h
+      | no h ↦ let e : get_or used k 0 ≡ 0 = z k (omega arith) in omega arith
+    ]

@@ -1,6 +1,6 @@
 -- Laws that the proofs of src/sums.rt cite: sums over depths, meters and arcs as the loops add them up. Assumes nothing.
 use Prim.Native.Nat.{ℕ, zero, suc, pred, ◌+◌, ◌-◌, ◌*◌, ◌≤◌, ◌<◌}
-use mathlib.Core.Path.{◌≡◌, refl, sym, ap, ap₂, ◌∙◌}
+use mathlib.Core.Path.{◌≡◌, refl, sym, ap, ap₂, ◌∙◌, subst}
 use mathlib.Core.List.{List}
 use lib.ListN.{length, get_or, take}
 use lib.Seq.{get_or-take, length-take-le}
@@ -9,8 +9,9 @@ use native.Mathlib.Numerals.{add-one}
 use native.Mathlib.Nat.{mul-le-mul, mul-add, zero-mul}
 use Rattle.lists.specs.Sums.{sum_to, sum_of, gap, nth}
 use Rattle.lists.proofs.Sums.{gap_small, sum_to_zero, sum_to_next, sum_to_eq, sum_to_none, nth_suc}
-use Rattle.links.specs.Links.{link_in}
+use Rattle.links.specs.Links.{link_in, weights}
 use Rattle.links.specs.declared.Link.{Link}
+use Rattle.links.proofs.Alike.{count_alike}
 use Rattle.qubo.specs.Formula.{Bits}
 use Rattle.onehot.specs.Choices.{bit_at, set_at, miss_squared, misses}
 use Rattle.arcs.specs.Arcs.{Arc, arcs, depth_bit, depth_at, arc_at}
@@ -19,6 +20,7 @@ use Rattle.arcs.specs.Inner.{link_set, Used}
 use Rattle.arcs.proofs.ArcLists.{arc_up, arc_back}
 use Rattle.arcs.proofs.LinkBits.{set_halves, none_set}
 use Rattle.arcs.proofs.ArcSums.{ArcsSummed, summed_start, summed_turn, summed_end}
+use Rattle.arcs.proofs.Endless.{cost_alike}
 use Rattle.arcs.proofs.Slices.{slice, slice_length, slice_at, slice_nth, slice_bits, meter_within}
 
 -- ---- a walk from 1 on: at v those before v are summed
@@ -302,3 +304,7 @@ module _ (used : List ℕ) (ls : List Link) where
 
   pub cost_end : (k sum : ℕ) → CostTo used ls k sum → length ls ≤ k → (N D : ℕ) (x : List ℕ) → Used N D (length ls) x used → sum ≡ arc_cost D (arcs ls) (arc_at N D x)
   cost_end k sum c h N D x u = summed_end ls (cost_of N D x) k sum (c.so_far N D x u) h ∙ cost_sum N D (arcs ls) x
+
+  -- and so for links with other ends
+  pub cost_ends : (k sum : ℕ) → CostTo used ls k sum → length ls ≤ k → (N D : ℕ) (x : List ℕ) (ms : List Link) → weights ms ≡ weights ls → Used N D (length ms) x used → sum ≡ arc_cost D (arcs ms) (arc_at N D x)
+  cost_ends k sum c h N D x ms e u = cost_end k sum c h N D x (subst (λ (n : ℕ). Used N D n x used) (count_alike ms ls e) u) ∙ sym (cost_alike ms ls e N D x)

@@ -1,6 +1,8 @@
 // The sums of depths and arcs in an assignment. What is counted for meter v at depth t stands in the place of that depth's bit.
 ghost use Rattle.std.specs.Prelude.{ℕ, pred, ◌+◌, ◌-◌, ◌*◌, ◌≤◌, ◌<◌, ◌≡◌, List, length, get_or};
 ghost use Rattle.lists.specs.Sums.{sum_to, same, gap, nth};
+ghost use Rattle.links.specs.Links.{weights};
+ghost use Rattle.links.specs.declared.Link.{Link};
 ghost use Rattle.qubo.specs.Formula.{Bits};
 ghost use Rattle.arcs.specs.Arcs.{arcs, depth_bit, depths_end, arcs_end, depth_at, arc_at};
 ghost use Rattle.arcs.specs.Sums.{root_miss, depth_misses, entries_of, entry_gaps, end_misses, arc_cost};
@@ -64,13 +66,14 @@ impl Layout {
         count as u8
     }
 
-    /// How many bits of its two arcs are set, for each of so many links in its place. The sums over arcs are lent these counts, so that the bits are
-    /// counted once; few links of a tree have any set, and the others are passed over.
+    /// How many bits of its two arcs are set, for each of so many links in its place, and 0 in each place behind these. The sums over arcs are lent
+    /// these counts, so that the bits are counted once; few links of a tree have any set, and the others are passed over.
     // The counts are lent beside the bits: a struct of both would have to hold the layout and the number of links too,
     // of which they are the counts, beside the `Arcs` that has these.
     pub fn count_used(&self, links: usize, bits: &[u8]) -> [u8; 256]
         requires { Bits bits.now × (links ≤ 256) × (arcs_end self.now.meters self.now.deepest links ≤ length bits.now) }
-        ensures { Used self.now.meters self.now.deepest links bits.now result }
+        ensures counts { Used self.now.meters self.now.deepest links bits.now result }
+        ensures rest { (k : ℕ) → links ≤ k → get_or result k 0 ≡ 0 }
     {
         let mut used = [0; 256];
         // By index: what an adapter of `iter_mut` wrote is not told to a proof.
@@ -218,7 +221,7 @@ impl Arcs<'_> {
 /// The weight of every arc bit set, whatever the ends of the links are and the bits of which these are the counts.
 pub fn arc_cost(links: &[Link], used: &[u8]) -> u64
     requires { (length links.now ≤ 256) × (length links.now ≤ length used.now) × ((k : ℕ) → k < length links.now → get_or used.now k 0 ≤ 48) }
-    ensures { ((N D : ℕ) (x : List ℕ) → Used N D (length links.now) x used.now → result ≡ arc_cost D (arcs links.now) (arc_at N D x)) × (result ≤ 805294080) }
+    ensures { ((N D : ℕ) (x : List ℕ) (ls : List Link) → weights ls ≡ weights links.now → Used N D (length ls) x used.now → result ≡ arc_cost D (arcs ls) (arc_at N D x)) × (result ≤ 805294080) }
 {
     let mut sum = 0;
     for (link, n) in links.iter().zip(used) {

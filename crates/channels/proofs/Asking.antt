@@ -35,6 +35,10 @@ pub penalty_small : (N : ℕ) (ls : List Link) → IsSurvey N ls → penalty N l
 unfolding penalty
 penalty_small N ls s = omega (arith, greatest_bound N (load ls) 16776960 (λ m p q. load_small N ls s m))
 
+-- `allows` and the links that site's read gives are all that is asked
+pub survey_lent : (N n : ℕ) (ls : List Link) → IsSurvey N ls → within_limits n ≡ true → WithChoices N n ls
+survey_lent N n ls s w = record { survey = s; low = limit_low n w; high = limit_high n w }
+
 -- what the type of channels says, as a record
 pub lent : (c : Channels) → WithChoices c.survey.meters c.n c.survey.links.now
 lent c = record { survey = is_survey c.survey; low = c.low; high = c.high }

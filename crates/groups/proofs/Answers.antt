@@ -1,14 +1,18 @@
 -- Laws that the proofs of src/problem.rt cite: the tests that the code makes decide what the definitions ask. Assumes nothing.
-use Prim.Native.Nat.{ℕ, ◌*◌, ◌≤◌}
-use mathlib.Core.Path.{◌≡◌, refl}
+use Prim.Native.Nat.{ℕ, ◌+◌, ◌*◌, ◌≤◌}
+use mathlib.Core.Path.{◌≡◌, refl, sym, ◌∙◌}
 use mathlib.Core.Logic.{◌↔◌}
 use mathlib.Core.Bool.{true, false}
 use mathlib.Core.List.{List}
 use lib.Dec.{eqb}
 use lib.ListN.{length}
+use native.Mathlib.Omega.{arith}
 use borrow.Author.Tests.{eq-eqb, eqb-true}
+use Rattle.lists.specs.Sums.{sum_of}
 use Rattle.lists.proofs.Tests.{and_left, same_test}
+use Rattle.links.specs.Links.{weights}
 use Rattle.links.specs.declared.Link.{Link}
+use Rattle.links.proofs.Alike.{total_weights, total_alike}
 use Rattle.qubo.specs.Formula.{Assignment}
 use Rattle.qubo.specs.Best.{CodesPlan}
 use Rattle.qubo.specs.Decoding.{answer_of, plan_after}
@@ -16,11 +20,22 @@ use Rattle.std.specs.Prelude.{Some, None}
 use Rattle.qubo.proofs.Decoding.{codes_exactly, none_decoded, plan_decoded}
 use Rattle.onehot.specs.Choices.{bit_at, are_choices, candidate}
 use Rattle.groups.specs.Sizes.{spread, equally_large}
-use Rattle.groups.specs.Formula.{bracket}
+use Rattle.groups.specs.Formula.{penalty, bracket}
 use Rattle.groups.specs.Plans.{members_of, is_plan, code_of, cut_weight}
 use Rattle.groups.specs.Instance.{instance}
 use Rattle.groups.proofs.SizeLemma.{spread_level, large_level}
 use Rattle.groups.proofs.Bracket.{candidate_plan, bracket_exactly}
+
+-- ---- own_penalty
+
+-- s is the sum that the code adds up, of the weights alone
+pub penalty_is : (ls : List Link) (s : ℕ) → s ≡ sum_of (weights ls) (λ w. w) → 1 + 2 * s ≡ penalty ls
+unfolding penalty
+penalty_is ls s e = omega (arith, e, total_weights ls)
+
+-- so ends have no part in A
+pub penalty_alike : (ls ms : List Link) → weights ls ≡ weights ms → penalty ls ≡ penalty ms
+penalty_alike ls ms e = sym (penalty_is ls _ (sym (total_weights ls))) ∙ penalty_is ms _ (total_alike ls ms e ∙ sym (total_weights ms))
 
 -- ---- is_plan
 

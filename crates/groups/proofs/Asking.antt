@@ -4,6 +4,7 @@ use mathlib.Core.Bool.{true}
 use mathlib.Core.Path.{◌≡◌}
 use mathlib.Core.List.{List}
 use lib.Dec.{leb}
+use lib.ListN.{length}
 use native.Mathlib.Omega.{arith}
 use borrow.Author.Tests.{leb-true}
 use Rattle.lists.proofs.Tests.{and_left, and_right}
@@ -34,6 +35,14 @@ penalty_heavy ls = omega arith
 pub penalty_small : (N : ℕ) (ls : List Link) → IsSurvey N ls → penalty ls ≤ 33553921
 unfolding penalty
 penalty_small N ls s = omega (arith, total_small N ls s)
+
+-- `allows` and the links that site's read gives are all that is asked
+pub survey_lent : (N m : ℕ) (ls : List Link) → IsSurvey N ls → within_limits m ≡ true → WithChoices N m ls
+survey_lent N m ls s w = record { survey = s; low = limit_low m w; high = limit_high m w }
+
+-- `own_penalty` is lent at most 256 links
+pub weights_few : (N : ℕ) (ls : List Link) → IsSurvey N ls → length ls ≤ 256
+weights_few N ls s = s.few
 
 -- what the type of problems says, as a record
 pub lent : (g : Groups) → WithChoices g.survey.meters g.m g.survey.links.now

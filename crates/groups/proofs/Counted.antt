@@ -62,11 +62,11 @@ spread_end sizes m h e = rw (e, add-one m) refl
 
 -- in place g stands how many of them have their bit for group g set; `low` leaves room to add
 pub record SizesTo (m : ℕ) (bits : List ℕ) (v : ℕ) (sizes : List ℕ) : Type 0 where
-  pub size : length sizes ≡ 256
+  pub size : length sizes ≡ 17
   pub low : (g : ℕ) → get_or sizes g 0 ≤ v
   pub so_far : (g : ℕ) → 1 ≤ g → g ≤ m → get_or sizes g 0 ≡ size_in v (bit_at m bits) g
 
-pub sizes_start : (m : ℕ) (bits sizes : List ℕ) → length sizes ≡ 256 → ((g : ℕ) → get_or sizes g 0 ≡ 0) → SizesTo m bits 0 sizes
+pub sizes_start : (m : ℕ) (bits sizes : List ℕ) → length sizes ≡ 17 → ((g : ℕ) → get_or sizes g 0 ≡ 0) → SizesTo m bits 0 sizes
 unfolding size_in
 sizes_start m bits sizes e z = record { size = e; low = λ g. omega (arith, z g); so_far = λ g a b. z g ∙ sym (sum_to_zero _) }
 
@@ -111,10 +111,10 @@ module _ (N m : ℕ) (bits : List ℕ) (size : ℕ → ℕ) (are : (g : ℕ) →
 -- ---- members_spread: from an array of zeros
 
 -- size g is what was counted for group g
-module _ (N m : ℕ) (plan : List ℕ) (size : ℕ → ℕ) (are : (g : ℕ) → size g ≡ sum_to N (λ v. same (nth plan v) g)) where
+module _ (N m : ℕ) (plan : List ℕ) (size : ℕ → ℕ) (are : (g : ℕ) → 1 ≤ g → g ≤ m → size g ≡ sum_to N (λ v. same (nth plan v) g)) where
   pub members_small : N ≤ 48 → (g : ℕ) → 1 ≤ g → g ≤ m → size g ≤ 48
-  members_small h g p q = omega (arith, are g, count_le N plan g)
+  members_small h g p q = omega (arith, are g p q, count_le N plan g)
 
   pub members_spread_is : (sum : ℕ) → sum ≡ spread m size → sum ≡ spread m (members_of N plan)
   unfolding members_of
-  members_spread_is sum e = e ∙ spread_eq m size (members_of N plan) (λ g p q. are g)
+  members_spread_is sum e = e ∙ spread_eq m size (members_of N plan) are

@@ -22,6 +22,7 @@ pub struct Groups<'a> {
 
 impl Groups<'_> {
     ghost use Rattle.std.specs.Prelude.{ℕ, ◌≡◌, List, length};
+    ghost use Rattle.links.specs.Links.{weights};
     ghost use Rattle.links.specs.declared.Link.{Link};
     ghost use Rattle.qubo.specs.Table.{constant_of};
     ghost use Rattle.groups.specs.Formula.{within_limits, penalty, formula};
@@ -45,7 +46,8 @@ impl Groups<'_> {
     #[tactic(auto, unfolding(crate::specs::Formula::penalty))]
     pub fn own_penalty(links: &[Link]) -> u64
         requires { length links.now ≤ 256 }
-        ensures { result ≡ penalty links.now }
+        ensures value { result ≡ penalty links.now }
+        ensures ends { (ls : List Link) → weights ls ≡ weights links.now → result ≡ penalty ls }
     {
         1 + 2 * links::total_weight(links)
     }

@@ -1,5 +1,6 @@
 // The sizes of the groups, in an assignment and in a plan, and what stands in the bracket. The size of group g is in
-// place g of 256, since a group's number in a plan is a byte.
+// place g of 17, since there are no more than 16 groups (a larger array, given back by value, would be three on the
+// stack).
 ghost use Rattle.std.specs.Prelude.{ℕ, pred, ◌+◌, ◌*◌, ◌≤◌, ◌<◌, ◌≡◌, length, get_or};
 ghost use Rattle.lists.specs.Sums.{sum_to, gap};
 ghost use Rattle.qubo.specs.Formula.{Assignment};
@@ -39,11 +40,11 @@ fn spread_of(sizes: &[u64], m: usize) -> u64
 impl Groups<'_> {
     /// The sizes of the groups in an assignment, meter by meter.
     // Bits are lent beside the struct: it is made before they are known.
-    fn gather_sizes(&self, bits: &[u8]) -> [u64; 256]
+    fn gather_sizes(&self, bits: &[u8]) -> [u64; 17]
         requires { Assignment (bit_count self.now.survey.meters self.now.m) bits.now }
-        ensures { (length result ≡ 256) × ((g : ℕ) → 1 ≤ g → g ≤ self.now.m → get_or result g 0 ≡ size_in self.now.survey.meters (bit_at self.now.m bits.now) g) }
+        ensures { (length result ≡ 17) × ((g : ℕ) → 1 ≤ g → g ≤ self.now.m → get_or result g 0 ≡ size_in self.now.survey.meters (bit_at self.now.m bits.now) g) }
     {
-        let mut sizes = [0; 256];
+        let mut sizes = [0; 17];
         for part in bits.chunks_exact(self.m) {
             onehot::add_part(&mut sizes, part, 1);
         }
@@ -68,5 +69,12 @@ pub fn members_spread(plan: &[u8], m: usize) -> u64
     requires { (length plan.now ≤ 48) × (m ≤ 16) }
     ensures { result ≡ spread m (members_of (length plan.now) plan.now) }
 {
-    spread_of(&onehot::count_choices(plan), m)
+    // Bytes, one for each number that a byte can be: the groups' own are taken out.
+    let counts = onehot::count_choices(plan);
+    let mut sizes = [0; 17];
+    // By index: what an adapter of `iter_mut` wrote is not told to a proof.
+    for g in 0..sizes.len() {
+        sizes[g] = counts[g] as u64;
+    }
+    spread_of(&sizes, m)
 }

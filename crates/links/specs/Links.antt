@@ -1,5 +1,5 @@
 -- Links and lists of links, in the words of document 01's section on the site image. Assumes nothing.
-use Rattle.std.specs.Prelude.{ℕ, ◌+◌, Bool, true, ◌&&◌, ◌||◌, cond, List, [], ◌∷◌, get_or, leb, ltb, eqb}
+use Rattle.std.specs.Prelude.{ℕ, ◌+◌, Bool, true, ◌&&◌, ◌||◌, cond, List, [], ◌∷◌, map, get_or, leb, ltb, eqb}
 use Rattle.lists.specs.Tests.{every, some, any}
 use Rattle.lists.specs.Sums.{sum_of}
 use Rattle.links.specs.declared.Link.{Link}
@@ -66,6 +66,10 @@ times_of a b (l ∷ ls) = cond (has_ends a b l) 1 0 + times_of a b ls
 unfoldable pub degree : ℕ → List Link → ℕ
 degree m [] = 0
 degree m (l ∷ ls) = cond (is_at m l) 1 0 + degree m ls
+
+-- the weights, in the order of the links, whatever their ends are
+unfoldable pub weights : List Link → List ℕ
+weights ls = map (λ l. l.weight) ls
 
 -- "the sum of all weights"
 unfoldable pub total : List Link → ℕ

@@ -57,14 +57,14 @@ fn is_at(link: Link, meter: usize) -> bool
 }
 
 // The arc bits set in or out of each meter m, in place m, in one walk of the links, whatever the bits are of which these
-// are the counts; a meter's number is a byte.
-fn gather_touches(arcs: &Arcs, used: &[u8]) -> [u64; 256]
+// are the counts; a meter's number is a byte. 16 bits hold each sum, and keep the array small on the stack.
+fn gather_touches(arcs: &Arcs, used: &[u8]) -> [u16; 256]
     requires { (length arcs.now.links.now ≤ length used.now) × ((k : ℕ) → k < length arcs.now.links.now → get_or used.now k 0 ≤ 48) }
     ensures { (length result ≡ 256) × ((N D : ℕ) (x : List ℕ) → Used N D (length arcs.now.links.now) x used.now → (m : ℕ) → get_or result m 0 ≡ touches_of D (of_links.arcs arcs.now.links.now) (arc_at N D x) m) × ((m : ℕ) → get_or result m 0 ≤ 12288) }
 {
     let mut sums = [0; 256];
     for (link, n) in arcs.links.iter().zip(used) {
-        let both = *n as u64;
+        let both = *n as u16;
         sums[link.u as usize] += both;
         sums[link.v as usize] += both;
     }
@@ -166,7 +166,7 @@ impl Neighbours<'_> {
     }
 
     // The sum over meters of the squared gaps between the sum of j over a meter's d bits set and what is counted in its place.
-    fn gaps_of(&self, sums: &[u64], bits: &[u8]) -> u64
+    fn gaps_of(&self, sums: &[u16], bits: &[u8]) -> u64
         requires { Assignment (arcs_end self.now.arcs.layout.meters self.now.arcs.layout.deepest (length self.now.arcs.links.now) + self.now.arcs.layout.meters * self.now.d) bits.now × (self.now.arcs.layout.meters < length sums.now) × ((m : ℕ) → get_or sums.now m 0 ≤ 12288) }
         ensures { (result ≡ gaps_from self.now.arcs.layout.meters self.now.arcs.layout.deepest (length self.now.arcs.links.now) self.now.d sums.now bits.now) × (result ≤ 2 ^ 33) }
     {
@@ -176,7 +176,7 @@ impl Neighbours<'_> {
         for v in 1..=self.arcs.layout.meters {
             let start = counts.count_start(v);
             let counted = numbers_set(&bits[start..start + self.d]);
-            sum += onehot::gap_squared(counted, sums[v]);
+            sum += onehot::gap_squared(counted, sums[v] as u64);
         }
         sum
     }

@@ -189,7 +189,8 @@ pub fn alike_weight(plan: &[u8], survey: &Survey) -> u64
 }
 
 /// How many meters have each choice: those of choice g are counted in place g of 256, since a choice is a byte.
-pub fn count_choices(plan: &[u8]) -> [u64; 256]
+// A byte holds a count, and an array given back by value is held more than once on the stack.
+pub fn count_choices(plan: &[u8]) -> [u8; 256]
     requires { length plan.now ≤ 48 }
     ensures { (length result ≡ 256) × ((g : ℕ) → get_or result g 0 ≡ sum_to (length plan.now) (λ v. same (nth plan.now v) g)) }
 {

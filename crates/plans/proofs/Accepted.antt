@@ -176,3 +176,7 @@ module _ (s : List ℕ) (a : Ask) (i room : ℕ) where
       let ok : Accepted s a = elim (ℕ_discrete (accept_number_in s a) 0) [ yes ok ↦ ok | no n ↦ absurd (n (sym (row_stopped n) ∙ z)) ] in
       let w = row_within J.bits i room (sym (accepted_then s a ok _) ∙ z) in
       (ok, w.0, w.1)
+
+-- the same of the list that a call hands on
+pub few_numbers : (s : List ℕ) (a : Ask) (i room : ℕ) (xs : List ℤ) → xs ≡ row_part_in s a i room → length xs ≤ 8192
+few_numbers s a i room xs e = rw e (part_few s a i room)

@@ -6,41 +6,25 @@
 // it. So it has where the input could not be read.
 #![tactic(auto)]
 
+mod gathered;
 mod streams;
 mod table;
 
+use crate::gathered::Gathered;
 use crate::streams::Patient;
 use std::io;
-use std::io::{BufWriter, Read, Write};
+use std::io::Write;
 use std::process::ExitCode;
 use std::rt::{Clock, Files};
 
-// A write takes so many bytes at a time: one for each line would cost seconds on a large table.
-const BUFFERED: usize = 65536;
+// An input and one byte more, so that a longer one is seen.
+const PLACES: usize = table::INPUT + 1;
 
-// The whole input, or one byte more than an input has, so that a longer one is seen.
-fn read_input(rt: &(impl Input + Clock + AllocGlobal)) -> io::Result<Vec<u8>> {
-    let mut input = Vec::new(rt.alloc());
-    Patient::new(rt, rt.reader())
-        .take(table::INPUT + 1)
-        .read_to_end(&mut input)?;
-    Ok(input)
-}
-
-// Writes the answer and all that is still buffered.
-fn write_whole(rt: &impl AllocGlobal, out: &mut impl Write, input: &[u8]) -> io::Result<()> {
-    table::write_answer(rt.alloc(), out, input)?;
-    out.flush()
-}
-
-// Prints the answer to an input, and sees that it is kept.
-fn print_answer(rt: &(impl Print + Clock + Files + AllocGlobal), input: &[u8]) -> io::Result<()> {
-    let stdout = Patient::new(rt, io::writer(rt));
-    let mut out = BufWriter::with_capacity(rt.alloc(), BUFFERED, stdout)?;
-    let outcome = write_whole(rt, &mut out, input);
-    // A dropped writer would write once more what a write that failed has left.
-    let _unwritten = out.into_parts();
-    outcome?;
+// Writes the answer to an input, and sees that it is kept.
+fn print_answer(rt: &(impl Print + Clock + Files), input: &[u8]) -> io::Result<()> {
+    let mut out = Gathered::new(Patient::new(rt, io::writer(rt)));
+    table::write_answer(&mut out, input)?;
+    out.flush()?;
     streams::sync_output(rt)
 }
 
@@ -52,10 +36,11 @@ fn fail(rt: &HostRuntime, line: &str) -> ExitCode {
 
 // The exit status tells whether the table or the refusal is whole, and standard error what went wrong.
 fn main(rt: HostRuntime) -> ExitCode {
-    let Ok(input) = read_input(&rt) else {
+    let mut places = [0; PLACES];
+    let Ok(count) = streams::read_whole(&mut Patient::new(&rt, rt.stdin()), &mut places) else {
         return fail(&rt, "print_table: input failed: no table\n");
     };
-    match print_answer(&rt, input.as_slice()) {
+    match print_answer(&rt, &places[..count]) {
         Ok(()) => ExitCode::SUCCESS,
         Err(_) => fail(&rt, "print_table: output failed: incomplete table\n"),
     }

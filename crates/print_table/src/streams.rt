@@ -1,4 +1,6 @@
 // Input and output that wait for their other end, and say when it does not come.
+ghost use Rattle.std.specs.Prelude.{◌≤◌, length, IfOk};
+
 use std::fs::{OpenFile, OpenOptions};
 use std::io::{Error, ErrorKind, Read, Write};
 use std::rt::{Clock, Files};
@@ -78,6 +80,21 @@ fn output_file<R: Files>(rt: &R) -> Option<R::File> {
         return None;
     }
     OpenOptions::new().write(true).open(rt, OUTPUT).ok()
+}
+
+/// Reads until the places are full or the input ends. Gives how many bytes it put there.
+pub fn read_whole(from: &mut impl Read, places: &mut [u8]) -> io::Result<usize>
+    ensures { IfOk result (λ n. n ≤ length places.new) }
+{
+    let mut done = 0;
+    while done < places.len() {
+        let count = from.read(&mut places[done..])?;
+        if count == 0 {
+            break;
+        }
+        done += count;
+    }
+    Ok(done)
 }
 
 /// Sees that what standard output took is kept, as far as the system can say: of a file, that it has reached its device,

@@ -1,11 +1,13 @@
 // The table that an input asks for, as lines of text.
 use plans::{Ask, Refusal};
-use std::alloc::Global;
 use std::io;
 use std::io::Write;
 
 /// An input has so many bytes: an image of 2,064, and then a kind and its parameter.
-pub const INPUT: u64 = 2066;
+pub const INPUT: usize = 2066;
+
+// No table has more bits.
+const MOST_BITS: usize = 8192;
 
 /// A table that the library gives: its image and what is asked of it, the bit count and the constant.
 #[derive(Clone, Copy)]
@@ -47,31 +49,33 @@ impl Table<'_> {
     }
 
     // The head and the lines of all rows, one row after another: the whole table is never held.
-    fn write(&self, alloc: Global, out: &mut impl Write) -> io::Result<()> {
+    fn write(&self, out: &mut impl Write) -> io::Result<()> {
         writeln!(out, "Q {} {}", self.bits, self.constant)?;
-        let mut places = vec![in alloc; 0i64; self.bits]?;
+        let mut places = [0i64; MOST_BITS];
         for i in 0..self.bits as u64 {
-            write_row(alloc, out, i, self.row(i, places.as_mut_slice()))?;
+            write_row(out, i, self.row(i, &mut places))?;
         }
         Ok(())
     }
 }
 
 // A line for each number of row i that is not 0.
-fn write_row(alloc: Global, out: &mut impl Write, i: u64, row: &[i64]) -> io::Result<()> {
-    let start = format!(in alloc; "{i} ")?;
+fn write_row(out: &mut impl Write, i: u64, row: &[i64]) -> io::Result<()> {
+    let mut digits = itoa::Buffer::new();
+    let start = digits.format(i);
     for (j, z) in (i..).zip(row) {
         if *z != 0 {
-            write_entry(out, start.as_str(), j, *z)?;
+            write_entry(out, start, j, *z)?;
         }
     }
     Ok(())
 }
 
-// The line `i j value`, of which the start is given. `writeln!(out, "{i} {j} {z}")` was tried: a table of 1.9 million lines took twice the time.
+// The line `i j value`, of which the first number is given. `writeln!(out, "{i} {j} {z}")` was tried: a table of 1.9 million lines took twice the time.
 fn write_entry(out: &mut impl Write, start: &str, j: u64, z: i64) -> io::Result<()> {
     let mut digits = itoa::Buffer::new();
     out.write_all(start.as_bytes())?;
+    out.write_all(b" ")?;
     out.write_all(digits.format(j).as_bytes())?;
     out.write_all(b" ")?;
     out.write_all(digits.format(z).as_bytes())?;
@@ -79,9 +83,9 @@ fn write_entry(out: &mut impl Write, start: &str, j: u64, z: i64) -> io::Result<
 }
 
 /// Writes the table that an input asks for, or the refusal.
-pub fn write_answer(alloc: Global, out: &mut impl Write, input: &[u8]) -> io::Result<()> {
+pub fn write_answer(out: &mut impl Write, input: &[u8]) -> io::Result<()> {
     match Table::try_from(input) {
-        Ok(table) => table.write(alloc, out),
+        Ok(table) => table.write(out),
         Err(refusal) => writeln!(out, "refused {}", refusal.number()),
     }
 }

@@ -3,7 +3,7 @@ use mir.Facts.{to_z-of_z}
 use Rattle.qubo.proofs.RowAction.{add_length, add_absent, plus_set}
 use Rattle.qubo.proofs.RowTerms.{single_here, single_absent, pair_here, pair_below, pair_absent, product_empty}
 use Rattle.qubo.proofs.RowShapes.{one_hot_row, difference_row, unequal_low, unequal_absent}
-use Rattle.qubo.proofs.Turns.{fits_less, fits_twice, fits_less_twice, held_less, held_twice, held_less_twice, one_hot_factor, one_hot_second, difference_factor, difference_first, difference_second, difference_third, unequal_factor, unequal_pair}
+use Rattle.qubo.proofs.Turns.{fits_less, fits_twice, fits_less_twice, held_less, held_twice, held_less_twice, one_hot_factor, one_hot_second, difference_factor, difference_first, difference_second, difference_third, unequal_factor, unequal_pair_of}
 
 -- ---- one number
 pub ruleset add_at = (to_z-of_z, plus_set)
@@ -15,7 +15,7 @@ pub ruleset add_to_own = (pair_here, pair_below)
 
 pub ruleset add_pair = (pair_absent, add_absent)
 
-pub ruleset add_own_unequal = (to_z-of_z, fits_twice, fits_less_twice, held_twice, held_less_twice, unequal_factor, unequal_pair, unequal_low, add_length)
+pub ruleset add_own_unequal = (to_z-of_z, fits_twice, fits_less_twice, held_twice, held_less_twice, unequal_factor, unequal_pair_of, unequal_low, add_length)
 
 pub ruleset add_unequal = (unequal_absent, add_absent)
 

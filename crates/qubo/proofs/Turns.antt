@@ -171,7 +171,9 @@ module _ (v : ℤ) (p q : ℕ) (r : List ℤ) (h : Room (2 ^ 61) (unequal v p q 
   pub unequal_factor : nat_abs v ≤ 2 ^ 61
   unequal_factor = factor_small v 4 (unequal v p q) r (unequal_norm v p q) h (omega arith)
 
-  pub unequal_pair : (m i j : ℕ) → m ≤ 2 → Room (2 ^ 61) (pair (pos 0 -ℤ pos m *ℤ v) i j ∷ []) (add_terms (single v i ∷ []) i r)
-  unequal_pair m i j g =
-      let s = pos 0 -ℤ pos m *ℤ v in
-      record { room = λ k. omega (arith, h.room k, unequal_norm v p q, added_abs (single v i ∷ []) i r k, single_norm v i, times_norm s i ((j, pos 1) ∷ []), less_twice_abs m v g) }
+  pub unequal_pair : (s : ℤ) (i j : ℕ) → nat_abs s ≤ 2 * nat_abs v → Room (2 ^ 61) (pair s i j ∷ []) (add_terms (single v i ∷ []) i r)
+  unequal_pair s i j g = record { room = λ k. omega (arith, h.room k, unequal_norm v p q, added_abs (single v i ∷ []) i r k, single_norm v i, times_norm s i ((j, pos 1) ∷ [])) }
+
+  -- the same of the factor as the code has it
+  pub unequal_pair_of : (m i j : ℕ) → m ≤ 2 → Room (2 ^ 61) (pair (pos 0 -ℤ pos m *ℤ v) i j ∷ []) (add_terms (single v i ∷ []) i r)
+  unequal_pair_of m i j g = unequal_pair (pos 0 -ℤ pos m *ℤ v) i j (less_twice_abs m v g)

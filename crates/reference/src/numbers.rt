@@ -16,7 +16,9 @@ pub fn index_of(row: usize, width: usize, column: usize) -> usize {
 }
 
 /// The number before, for those that count from 1.
-pub fn before(i: usize) -> usize {
+pub fn before(i: usize) -> usize
+    ensures { result ≤ i }
+{
     i.saturating_sub(1)
 }
 

@@ -1,6 +1,5 @@
 // What the library answers, as it is printed.
 use plans::{Decoded, Refusal};
-use std::io::Write;
 use std::{fmt, io};
 
 /// A space and a value, or the number of a refusal.
@@ -35,16 +34,18 @@ pub fn number<T: Drop>(answer: Result<T, Refusal>) -> u64 {
     }
 }
 
-/// Writes a space and the bytes as digits.
-pub fn write_bytes(out: &mut impl Write, bytes: &[u8]) -> io::Result<()> {
-    write!(out, " ")?;
+/// Prints a space and the bytes as digits.
+pub fn print_bytes(rt: &impl Print, bytes: &[u8]) -> io::Result<()> {
+    print!(rt; " ")?;
     for byte in bytes {
-        write!(out, "{byte}")?;
+        print!(rt; "{byte}")?;
     }
     Ok(())
 }
 
 /// In how many places two slices differ, as far as both go.
 pub fn differing<T: PartialEq>(left: &[T], right: &[T]) -> usize {
-    left.iter().zip(right).filter(|(a, b)| a != b).count()
+    left.iter().zip(right).fold(0usize, |count, (a, b)| {
+        count.wrapping_add(usize::from(a != b))
+    })
 }

@@ -4,11 +4,10 @@ use crate::edits::{Byte, Circle, Edit};
 use crate::search::{Candidates, Search};
 use crate::words;
 use plans::Ask;
-use std::alloc::{AllocError, Global};
 
 /// A call of the library, or what is lent to the calls after it.
-#[derive(Drop)]
-pub enum Command {
+#[derive(Clone, Copy)]
+pub enum Command<'a> {
     /// `begin N`, `add U V W` or `remove U V`
     Edit(Edit),
     /// `circle N STEP W COUNT`
@@ -28,18 +27,22 @@ pub enum Command {
     /// `fill K P I COUNT`
     Fill(Row),
     /// `decode K P BITS COUNT`
-    Decode(Coding),
+    Decode(Coding<'a>),
     /// `encode K P PLAN COUNT`
-    Encode(Coding),
+    Encode(Coding<'a>),
     /// `plans` or `minimum`
     Search(Search),
     /// Nothing to answer.
     Remark,
 }
 
-impl Command {
+impl<'a> Command<'a> {
     /// What a line says, by its first letter; what it asks for has the margin.
-    pub fn parse(alloc: Global, line: &[u8], margin: u64) -> Result<Command, AllocError> {
+    pub fn parse(line: &'a [u8], margin: u64) -> Command<'a> {
+        let letter = words::letter(line);
+        if letter == b'#' {
+            return Command::Remark;
+        }
         let numbers = words::numbers(line);
         let [first, second, third, ..] = numbers;
         let ask = Ask {
@@ -47,7 +50,7 @@ impl Command {
             parameter: second,
             margin,
         };
-        let command = match words::letter(line) {
+        match letter {
             b'b' => Command::Edit(Edit::Begin(first)),
             b'a' => Command::Edit(Edit::Add(first, second, words::weight(third))),
             b'r' => Command::Edit(Edit::Remove(first, second)),
@@ -59,12 +62,11 @@ impl Command {
             b'i' => Command::Image,
             b'k' => Command::Kind(ask),
             b'f' => Command::Fill(Row::new(ask, numbers)),
-            b'd' => Command::Decode(Coding::new(alloc, ask, line)?),
-            b'e' => Command::Encode(Coding::new(alloc, ask, line)?),
+            b'd' => Command::Decode(Coding::new(ask, line)),
+            b'e' => Command::Encode(Coding::new(ask, line)),
             b'p' => Command::Search(Search::new(Candidates::Plans, ask, numbers)),
             b'm' => Command::Search(Search::new(Candidates::Assignments, ask, numbers)),
             _ => Command::Remark,
-        };
-        Ok(command)
+        }
     }
 }

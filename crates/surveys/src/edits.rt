@@ -2,11 +2,18 @@
 ghost use Rattle.std.specs.Prelude.{◌<◌, ◌≤◌};
 
 use crate::answers::{differing, number};
+use crate::session::LONGEST;
 use crate::words::{self, Numbers};
 use plans::Refusal;
-use std::alloc::Global;
 use std::io;
-use std::io::Write;
+
+// The bytes of an image; zeros behind them.
+fn copy_of(image: &[u8]) -> [u8; LONGEST] {
+    let mut copy = [0; LONGEST];
+    let len = image.len().min(LONGEST);
+    copy[..len].copy_from_slice(&image[..len]);
+    copy
+}
 
 /// An edit of the image.
 #[derive(Debug, Clone, Copy, PartialEq, Eq)]
@@ -29,16 +36,12 @@ impl Edit {
     }
 
     /// Makes the edit; the number of its refusal, 0 for none, and how many bytes were altered.
-    pub fn show(self, alloc: Global, out: &mut impl Write, image: &mut [u8]) -> io::Result<()> {
-        // The allocator is a parameter, as std has it: a struct of it and the output would be no plainer, since half of
-        // the commands need no allocator.
-        let old = image.to_vec(alloc)?;
+    // Not inlined, as are all that need room for a copy: every line would pay for it.
+    #[inline(never)]
+    pub fn show(self, rt: &impl Print, image: &mut [u8]) -> io::Result<()> {
+        let old = copy_of(image);
         let refusal = number(self.make(image));
-        write!(
-            out,
-            ": {refusal}, altered {}",
-            differing(old.as_slice(), image)
-        )
+        print!(rt; ": {refusal}, altered {}", differing(&old, image))
     }
 }
 
@@ -74,14 +77,14 @@ impl Circle {
     }
 
     /// Adds the links; how many are accepted.
-    pub fn show(self, out: &mut impl Write, image: &mut [u8]) -> io::Result<()> {
+    pub fn show(self, rt: &impl Print, image: &mut [u8]) -> io::Result<()> {
         let mut accepted = 0u64;
         for k in 0..self.count {
             if self.add_link(image, k) {
                 accepted += 1;
             }
         }
-        write!(out, ": accepted {accepted}")
+        print!(rt; ": accepted {accepted}")
     }
 }
 
@@ -110,27 +113,23 @@ impl Byte {
     }
 
     /// `try AT BYTE`: of calls with a copy of the image that has the byte, the numbers of the refusals, 0 for none, and how many bytes they altered together.
-    pub fn show_calls(self, alloc: Global, out: &mut impl Write, image: &[u8]) -> io::Result<()> {
-        let mut copy = image.to_vec(alloc)?;
-        self.set(copy.as_mut_slice());
-        let old = copy.clone()?;
-        write_calls(out, copy.as_mut_slice())?;
-        write!(
-            out,
-            ", altered {}",
-            differing(old.as_slice(), copy.as_slice())
-        )
+    #[inline(never)]
+    pub fn show_calls(self, rt: &impl Print, image: &[u8]) -> io::Result<()> {
+        let mut copy = copy_of(image);
+        let lent = image.len().min(LONGEST);
+        let image = &mut copy[..lent];
+        self.set(image);
+        let old = copy_of(image);
+        print_calls(rt, image)?;
+        print!(rt; ", altered {}", differing(&old, image))
     }
 }
 
-fn write_calls(out: &mut impl Write, image: &mut [u8]) -> io::Result<()> {
+fn print_calls(rt: &impl Print, image: &mut [u8]) -> io::Result<()> {
     let check = number(site::check(image));
     let added = number(plans::add(image, 3, 4, 9));
     let removed = number(plans::remove(image, 1, 2));
     let mut links = site::NO_LINKS;
     let read = number(site::read(image, &mut links));
-    write!(
-        out,
-        ": check {check}, add {added}, remove {removed}, read {read}"
-    )
+    print!(rt; ": check {check}, add {added}, remove {removed}, read {read}")
 }

@@ -13,21 +13,49 @@ mod search;
 mod session;
 mod words;
 
+ghost use Rattle.std.specs.Prelude.{◌≤◌, length, IfOk};
+
 use crate::session::Session;
 use std::io;
-use std::io::{BufRead, BufReader, BufWriter, Read, Write};
+use std::io::Read;
 
 // So many bytes of input are read; lines behind them are not carried out.
-const MOST_READ: u64 = 32768;
+const MOST_READ: usize = 32768;
+
+// Reads until the places are full or the input ends. Gives how many bytes it put there.
+fn read_whole(from: &mut impl Read, places: &mut [u8]) -> io::Result<usize>
+    ensures { IfOk result (λ n. n ≤ length places.new) }
+{
+    let mut done = 0;
+    while done < places.len() {
+        let count = from.read(&mut places[done..])?;
+        if count == 0 {
+            break;
+        }
+        done += count;
+    }
+    Ok(done)
+}
+
+fn is_newline(letter: &u8) -> bool {
+    *letter == b'\n'
+}
 
 // Line by line; the last one may have no end. A line need not be text.
-fn main(rt: HostRuntime) -> io::Result<()> {
-    let alloc = rt.alloc();
-    let input = BufReader::new(alloc, rt.reader().take(MOST_READ))?;
-    let mut out = BufWriter::new(alloc, io::writer(&rt))?;
+fn carry_out_all(rt: &impl Print, text: &[u8]) -> io::Result<()> {
     let mut session = Session::new();
-    for line in input.split(alloc, b'\n') {
-        session.carry_out(alloc, &mut out, line?.as_slice())?;
+    if text.is_empty() {
+        return Ok(());
     }
-    out.flush()
+    for line in text.strip_suffix(b"\n").unwrap_or(text).split(is_newline) {
+        session.carry_out(rt, line)?;
+    }
+    Ok(())
+}
+
+// The whole input is read before a line of it is carried out: where it cannot be read, nothing is printed.
+fn main(rt: HostRuntime) -> io::Result<()> {
+    let mut places = [0u8; MOST_READ];
+    let count = read_whole(&mut rt.stdin(), &mut places)?;
+    carry_out_all(&rt, &places[..count])
 }

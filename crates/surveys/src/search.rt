@@ -4,9 +4,7 @@ ghost use Rattle.std.specs.Prelude.{◌≤◌};
 use crate::asks::{BYTE, lent};
 use crate::words::{MOST_BYTES, Numbers};
 use plans::{Ask, Refusal};
-use std::alloc::Global;
 use std::io;
-use std::io::Write;
 
 // So many are tried at most.
 const MOST_TRIED: u64 = 100000;
@@ -79,31 +77,27 @@ impl Search {
 
     /// Tries them: how many there are, how many are plans, how many are refused by 12, and the least energy. Bits that a
     /// refusal left as they were are no code (7 is no bit) or that of an earlier plan.
-    pub fn show(&self, alloc: Global, out: &mut impl Write, image: &[u8]) -> io::Result<()> {
-        // The allocator is a parameter, as std has it: a struct of it and the output would be no plainer, since half of
-        // the commands need no allocator.
-        let mut plan = lent(alloc, BYTE, MOST_BYTES, self.bytes)?;
-        let mut bits = lent(alloc, BYTE, MOST_BYTES, self.bits)?;
+    pub fn show(&self, rt: &impl Print, image: &[u8]) -> io::Result<()> {
+        let mut plan = [BYTE; MOST_BYTES];
+        let mut bits = [BYTE; MOST_BYTES];
+        let plan = lent(&mut plan, self.bytes);
+        let bits = lent(&mut bits, self.bits);
         let mut accepted = 0u64;
         let mut refused = 0u64;
         let mut least: Option<i64> = None;
         for k in 0..self.count {
-            match self.try_one(image, plan.as_mut_slice(), bits.as_mut_slice(), k) {
+            match self.try_one(image, plan, bits, k) {
                 Ok(()) => accepted += 1,
                 Err(Refusal::NoPlan) => refused += 1,
                 Err(_) => {}
             }
-            if let Ok(energy) = plans::energy(image, self.ask, bits.as_slice()) {
+            if let Ok(energy) = plans::energy(image, self.ask, bits) {
                 least = Some(least.map_or(energy, |least| least.min(energy)));
             }
         }
-        write!(
-            out,
-            ": of {} plans {accepted}, give 12 {refused}",
-            self.count
-        )?;
+        print!(rt; ": of {} plans {accepted}, give 12 {refused}", self.count)?;
         match least {
-            Some(energy) => write!(out, ", least energy {energy}"),
+            Some(energy) => print!(rt; ", least energy {energy}"),
             None => Ok(()),
         }
     }

@@ -1,14 +1,13 @@
 // What the lines so far leave for those after them.
 use crate::command::Command;
 use crate::{asks, readings};
-use std::alloc::Global;
 use std::io;
-use std::io::Write;
 
 // So many bytes are lent as the image at first, and one more at most.
 const IMAGE: usize = 2064;
 
-const LONGEST: usize = IMAGE + 1;
+/// The longest slice that is lent as an image.
+pub const LONGEST: usize = IMAGE + 1;
 
 /// The bytes of which the first are lent as the image, and the margin of what is asked.
 #[derive(Drop)]
@@ -30,31 +29,26 @@ impl Session {
     }
 
     /// Carries out a line, and prints it with what the library answers.
-    pub fn carry_out(
-        &mut self,
-        alloc: Global,
-        out: &mut impl Write,
-        line: &[u8],
-    ) -> io::Result<()> {
-        out.write_all(line)?;
-        let command = Command::parse(alloc, line, self.margin)?;
+    pub fn carry_out(&mut self, rt: &impl Print, line: &[u8]) -> io::Result<()> {
+        rt.write_all(line)?;
+        let command = Command::parse(line, self.margin);
         let lent = self.lent.min(LONGEST);
         let image = &mut self.bytes[..lent];
         match command {
-            Command::Edit(edit) => edit.show(alloc, out, image)?,
-            Command::Circle(circle) => circle.show(out, image)?,
+            Command::Edit(edit) => edit.show(rt, image)?,
+            Command::Circle(circle) => circle.show(rt, image)?,
             Command::Lend(len) => self.lent = len,
             Command::Set(byte) => byte.set(image),
-            Command::Try(byte) => byte.show_calls(alloc, out, image)?,
+            Command::Try(byte) => byte.show_calls(rt, image)?,
             Command::With(margin) => self.margin = margin,
-            Command::Image => readings::show(out, image)?,
-            Command::Kind(ask) => asks::show_kind(out, image, ask)?,
-            Command::Fill(row) => row.show(alloc, out, image)?,
-            Command::Decode(coding) => coding.show_decode(alloc, out, image)?,
-            Command::Encode(coding) => coding.show_encode(alloc, out, image)?,
-            Command::Search(search) => search.show(alloc, out, image)?,
+            Command::Image => readings::show(rt, image)?,
+            Command::Kind(ask) => asks::show_kind(rt, image, ask)?,
+            Command::Fill(row) => row.show(rt, image)?,
+            Command::Decode(coding) => coding.show_decode(rt, image)?,
+            Command::Encode(coding) => coding.show_encode(rt, image)?,
+            Command::Search(search) => search.show(rt, image)?,
             Command::Remark => {}
         }
-        out.write_all(b"\n")
+        rt.write_all(b"\n")
     }
 }

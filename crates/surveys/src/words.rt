@@ -1,8 +1,4 @@
 // A line is words with a space between them: the first says what is called, by its first letter, and the others are numbers or bytes written as digits.
-ghost use Rattle.std.specs.Prelude.{◌≤◌, IfOk, vec_len};
-
-use std::alloc::{AllocError, Global};
-
 /// So many bytes a plan or its code has at most.
 pub const MOST_BYTES: usize = 128;
 
@@ -23,35 +19,43 @@ fn digit(letter: &u8) -> Option<u8> {
     letter.is_ascii_digit().then_some(letter.wrapping_sub(b'0'))
 }
 
-// The number that the digits in a word make; other letters are passed over. No line has a number above 2^64 - 1; what the digits of one make is of no use.
-// Not by parse: letters among the digits are passed over, and numbers that are too large have an answer too.
-fn number(word: &[u8]) -> u64 {
-    word.iter().filter_map(digit).fold(0u64, |n, digit| {
-        n.checked_mul(10)
-            .unwrap_or(0)
-            .wrapping_add(u64::from(digit))
-    })
+// A number with one more digit. No line has a number above 2^64 - 1; what the digits of one make is of no use.
+fn longer(n: u64, digit: u8) -> u64 {
+    n.checked_mul(10)
+        .unwrap_or(0)
+        .wrapping_add(u64::from(digit))
 }
 
-/// The words as numbers, from the second on; those that a line does not have are 0.
+/// The words as numbers, from the second on; those that a line does not have are 0. Letters among the digits are passed
+/// over.
 pub fn numbers(line: &[u8]) -> Numbers {
     let mut numbers = [0u64; 6];
-    let words = line.split(is_space).skip(1);
-    for (place, word) in numbers.iter_mut().zip(words) {
-        *place = number(word);
+    // How many spaces there were: the first word is no number, and has no place.
+    let mut spaces = 0usize;
+    for letter in line {
+        if is_space(letter) {
+            spaces = spaces.saturating_add(1);
+        } else if let Some(digit) = digit(letter) {
+            if let Some(number) = numbers.get_mut(spaces.wrapping_sub(1)) {
+                *number = longer(*number, digit);
+            }
+        }
     }
     numbers
 }
 
-/// The digits of the fourth word, a byte each, without those that are too many.
-pub fn bytes(alloc: Global, line: &[u8]) -> Result<Vec<u8>, AllocError>
-    ensures { IfOk result (λ v. vec_len v ≤ MOST_BYTES) }
-{
-    let word = line.split(is_space).nth(3).unwrap_or(&[]);
-    word.iter()
-        .filter_map(digit)
-        .take(MOST_BYTES)
-        .collect(alloc)
+/// The fourth word, which is written as bytes; empty where a line has none.
+pub fn fourth(line: &[u8]) -> &[u8] {
+    line.split(is_space).nth(3).unwrap_or(&[])
+}
+
+/// Puts the digits of a word into the places, a byte each, without those that are too many. Gives those places.
+pub fn put_digits<'a>(word: &[u8], places: &'a mut [u8]) -> &'a [u8] {
+    for (place, byte) in places.iter_mut().zip(word.iter().filter_map(digit)) {
+        *place = byte;
+    }
+    let count = word.iter().filter_map(digit).count().min(places.len());
+    &places[..count]
 }
 
 /// A number as a weight: its last 16 bits.

@@ -1,6 +1,6 @@
--- broken_choices, broken_arcs, constant, energy and decode: that what they give is what the definitions say. Assumes nothing.
+-- own_penalty, broken_choices, broken_arcs, constant, energy and decode: that what they give is what the definitions say. Assumes nothing.
 use Prim.Native.Nat.{ℕ, ◌+◌, ◌*◌, ◌^◌, ◌≤◌, ◌<◌}
-use mathlib.Core.Path.{◌≡◌, refl, sym, ap₂}
+use mathlib.Core.Path.{◌≡◌, refl, sym, ap₂, ◌∙◌}
 use mathlib.Core.Logic.{◌↔◌}
 use mathlib.Core.Bool.{true}
 use mathlib.Core.List.{List}
@@ -8,8 +8,11 @@ use native.Mathlib.Omega.{arith}
 use native.Mathlib.Nat.{mul-le-mul}
 use lib.ListN.{length}
 use lib.IntN.{pos}
+use Rattle.lists.specs.Sums.{sum_of}
+use Rattle.links.specs.Links.{weights}
 use Rattle.links.specs.declared.Link.{Link}
 use Rattle.links.specs.Survey.{IsSurvey}
+use Rattle.links.proofs.Alike.{total_weights, total_alike}
 use Rattle.qubo.specs.Formula.{Assignment, value}
 use Rattle.qubo.specs.Best.{CodesPlan}
 use Rattle.qubo.specs.Decoding.{codes_plan, answer_of, plan_after}
@@ -20,7 +23,7 @@ use Rattle.spanning.specs.Parents.{deepest}
 use Rattle.arcs.specs.Arcs.{Arc, arcs, depth_at, arc_at}
 use Rattle.arcs.specs.Sums.{root_miss, depth_misses, entry_gaps, end_misses, arc_cost}
 use Rattle.neighbours.specs.Formula.{count_at, degree_gaps}
-use Rattle.tree.specs.Formula.{TreeBits, bit_count, formula, bits_of, broken}
+use Rattle.tree.specs.Formula.{TreeBits, penalty, bit_count, formula, bits_of, broken}
 use Rattle.tree.specs.Inner.{broken_choices, broken_arcs, Readable}
 use Rattle.tree.specs.Plans.{is_plan, code_of, tree_weight}
 use Rattle.tree.specs.Decoding.{candidate}
@@ -28,6 +31,17 @@ use Rattle.tree.specs.Instance.{instance}
 use Rattle.tree.proofs.Value.{worth, formula_value}
 use Rattle.tree.proofs.Broken.{broken_exactly, broken_single}
 use Rattle.tree.proofs.CodeSums.{candidate_code}
+
+-- ---- own_penalty
+
+-- s is the sum that the code adds up, of the weights alone
+pub penalty_is : (ls : List Link) (s : ℕ) → s ≡ sum_of (weights ls) (λ w. w) → 1 + s ≡ penalty ls
+unfolding penalty
+penalty_is ls s e = omega (arith, e, total_weights ls)
+
+-- so ends have no part in A
+pub penalty_alike : (ls ms : List Link) → weights ls ≡ weights ms → penalty ls ≡ penalty ms
+penalty_alike ls ms e = sym (penalty_is ls _ (sym (total_weights ls))) ∙ penalty_is ms _ (total_alike ls ms e ∙ sym (total_weights ms))
 
 -- ---- the six sums, in two parts, for any D and links
 

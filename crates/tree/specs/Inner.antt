@@ -1,7 +1,8 @@
--- Only contracts between functions cite this: a reader of the public promises may skip it. The parts in which the code fills a row and adds up what A multiplies, and what its loops hand on. Assumes nothing.
+-- Only contracts between functions and proofs cite this: a reader of the public promises may skip it. What a `Tree` has, as a record, the parts in which the code fills a row and adds up what A multiplies, and what its loops hand on. Assumes nothing.
 use Rattle.std.specs.Prelude.{ℕ, ◌≤◌, ◌+◌, pred, ◌*◌, List, [], ◌∷◌, ◌++◌, ◌≡◌, length, get_or, set, take, drop}
 use Rattle.lists.specs.Sums.{sum_to, sum_of, same, nth}
 use Rattle.links.specs.declared.Link.{Link}
+use Rattle.links.specs.Survey.{IsSurvey}
 use Rattle.qubo.specs.Formula.{Formula, Bits}
 use Rattle.onehot.specs.Choices.{misses}
 use Rattle.arcs.specs.Arcs.{Arc, arcs, arcs_end, arc_at}
@@ -9,6 +10,15 @@ use Rattle.arcs.specs.Formula.{root_term, depth_terms, entry_terms, end_terms, w
 use Rattle.arcs.specs.Sums.{root_miss, depth_misses, entry_gaps, end_misses}
 use Rattle.neighbours.specs.Formula.{count_terms, degree_terms, degree_gaps}
 use Rattle.tree.specs.Formula.{TreeBits}
+
+-- ---- what a `Tree` has
+
+-- an accepted site of at least two meters, and d from 1 to 47: the type `Tree` carries these facts now, in its survey and its ghost fields
+pub record WithNeighbourLimit (N d : ℕ) (ls : List Link) : Type 0 where
+  pub survey : IsSurvey N ls
+  pub meters : 2 ≤ N
+  pub low : 1 ≤ d
+  pub high : d ≤ 47
 
 -- ---- the parts in which src/rows.rt fills a row
 

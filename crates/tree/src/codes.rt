@@ -55,7 +55,7 @@ fn neighbour_choices(plan: &[u8]) -> [u8; 256]
     let mut choices = [0; 256];
     // By index: what an adapter of `iter_mut` wrote is not told to a proof.
     for v in 0..plan.len() {
-        choices[v] = plans::neighbours_at(&children, plan, v + 1) as u8;
+        choices[v] = plans::neighbours_at(&children, plan, v + 1);
     }
     choices
 }

@@ -77,7 +77,7 @@ fn depth_bits(plan: &[u8], meters: usize) -> [u8; 256]
 }
 
 /// How many neighbours meter v has in the tree: its children, and its parent if it has one.
-pub fn neighbours_at(children: &[u64], plan: &[u8], v: usize) -> u64
+pub fn neighbours_at(children: &[u8], plan: &[u8], v: usize) -> u8
     requires { Counted plan.now children.now × (v < 256) }
     ensures { (result ≡ neighbours (length plan.now) plan.now v) × (result ≤ 49) }
 {
@@ -88,7 +88,7 @@ pub fn neighbours_at(children: &[u64], plan: &[u8], v: usize) -> u64
 }
 
 // Whether nobody has more than d neighbours.
-fn within_limit(children: &[u64], plan: &[u8], d: usize) -> bool
+fn within_limit(children: &[u8], plan: &[u8], d: usize) -> bool
     requires { Counted plan.now children.now }
     ensures { result ≡ few_neighbours (length plan.now) d plan.now }
 {

@@ -21,6 +21,7 @@ pub struct Tree<'a> {
 
 impl<'a> Tree<'a> {
     ghost use Rattle.spanning.specs.Parents.{deepest};
+    ghost use Rattle.links.specs.Links.{weights};
     ghost use Rattle.links.specs.declared.Link.{Link};
     ghost use Rattle.qubo.specs.Table.{constant_of};
     ghost use Rattle.tree.specs.Formula.{within_limits, penalty, bit_count, formula};
@@ -46,7 +47,8 @@ impl<'a> Tree<'a> {
     #[tactic(auto, unfolding(crate::specs::Formula::penalty))]
     pub fn own_penalty(links: &[Link]) -> u64
         requires { length links.now ≤ 256 }
-        ensures { result ≡ penalty links.now }
+        ensures value { result ≡ penalty links.now }
+        ensures ends { (ls : List Link) → weights ls ≡ weights links.now → result ≡ penalty ls }
     {
         1 + links::total_weight(links)
     }
@@ -64,6 +66,8 @@ impl<'a> Tree<'a> {
     }
 
     /// The number of bits, with so many links.
+    // D is unfolded so that a layout made here, in place of the call, is judged by the number of bits alone.
+    #[tactic(auto, unfolding(spanning::specs::Parents::deepest))]
     pub fn bit_count(meters: usize, links: usize, d: usize) -> usize
         requires { (meters ≤ 48) × (links ≤ 256) × (d ≤ 47) }
         ensures { (result ≡ bit_count meters links d) × (result ≤ 15744) }

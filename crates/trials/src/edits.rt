@@ -54,6 +54,7 @@ impl Twins {
         match calls::read(&self.image) {
             Ok(read) => {
                 read.meters == self.matrix.meters()
+                    && read.count <= read.links.len()
                     && self.matrix.has_links(front(&read.links, read.count))
             }
             Err(_) => false,

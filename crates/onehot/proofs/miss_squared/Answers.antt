@@ -3,4 +3,4 @@ use Rattle.onehot.proofs.Turns.{miss_is}
 use Rattle.onehot.proofs.miss_squared.Goals as goal
 
 pub returns : goal.returns
-returns c = miss_is c.args.k _ c.abs_diff-off.ensures (omega arith)
+returns c = miss_is c.args.k _ (omega arith) (omega arith)

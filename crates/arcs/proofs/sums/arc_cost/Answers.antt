@@ -2,7 +2,7 @@ use Rattle.std.proofs.Common.{length, get_or, length-append, arith, ap}
 use Rattle.std.proofs.lemmas.Slice.Zip.{zip_turn, zip_end}
 use Rattle.links.specs.Links.{nothing, link_in}
 use Rattle.links.specs.declared.Link.{Link}
-use Rattle.arcs.proofs.Summing.{cost_start, cost_turn, cost_end, cost_small}
+use Rattle.arcs.proofs.Summing.{cost_start, cost_turn, cost_ends, cost_small}
 use Rattle.arcs.proofs.sums.arc_cost.Goals as goal
 
 pub loop-link-init : goal.loop-link-init
@@ -20,4 +20,4 @@ pub returns : goal.returns
 returns c =
     let l = c.loop-link in
     let ended = zip_end c.args.links.now c.args.used.now l.yielded c.into_iter-link-iterator.result l.link-iterator c.next.new.self c.next.result (cc) (cc) l.yielded_by c.in-None.is c.next.ensures.steps in
-    (cost_end c.args.used.now c.args.links.now (length l.yielded) l.sum l.invariant.0 (omega (arith, ended, c.requires.1)), omega (arith, l.invariant, c.requires.0))
+    (cost_ends c.args.used.now c.args.links.now (length l.yielded) l.sum l.invariant.0 (omega (arith, ended, c.requires.1)), omega (arith, l.invariant, c.requires.0))

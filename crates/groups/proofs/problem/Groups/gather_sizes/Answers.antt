@@ -16,7 +16,7 @@ loop-part-init c =
       omega (arith, size, s.low),
       tt,
       record { each = size; left = rw (zero-mul s.m) (ap (λ i. i.rest.now) i ∙ e.rest); so_far = omega arith },
-      sizes_start _ _ _ refl (zero_entries 256),
+      sizes_start _ _ _ refl (zero_entries 17),
     )
 
 pub loop-part-preserved : goal.loop-part-preserved

@@ -30,7 +30,7 @@ pub read_parents-requires : goal.read_parents-requires
 read_parents-requires c =
     let t = c.args.self.now in
     let n = c.neighbours-neighbours.ensures in
-    rw (n.meters, n.deepest, n.links) (arcs_readable _ _ _ (is_survey t.survey) t.meters _ c.requires.0 _ (rw (n.meters, n.deepest, n.links, n.d) at c.broken_choices.ensures.0) c.if-broken_choices-ne0.false _ (rw (n.meters, n.deepest, n.links, n.d) at c.broken_arcs.ensures.0) c.if-broken_arcs-ne0.false, c.requires.1, rw (n.meters, n.deepest) at c.count_used-used.ensures)
+    rw (n.meters, n.deepest, n.links) (arcs_readable _ _ _ (is_survey t.survey) t.meters _ c.requires.0 _ (rw (n.meters, n.deepest, n.links, n.d) at c.broken_choices.ensures.0) c.if-broken_choices-ne0.false _ (rw (n.meters, n.deepest, n.links, n.d) at c.broken_arcs.ensures.0) c.if-broken_arcs-ne0.false, c.requires.1, rw (n.meters, n.deepest) at c.count_used-used.ensures.counts)
 
 pub returns-clause-answer : goal.returns-clause-answer
 returns-clause-answer c =

@@ -1,0 +1,7 @@
+use mathlib.Core.Path.{sym, ◌∙◌}
+use Rattle.links.proofs.Alike.{total_weights}
+use Rattle.groups.proofs.Answers.{penalty_is, penalty_alike}
+use Rattle.groups.proofs.problem.Groups.own_penalty.Goals as goal
+
+pub returns-clause-ends : goal.returns-clause-ends
+returns-clause-ends c = λ ls e. penalty_is _ _ (c.total_weight.ensures.value ∙ sym (total_weights c.args.links.now)) ∙ sym (penalty_alike ls c.args.links.now e)
