@@ -1,5 +1,5 @@
 // Output that is gathered in one buffer: a write for each line would cost seconds on a large table. Nothing is allocated.
-ghost use Rattle.std.specs.Prelude.{◌≡◌, ◌+◌, ◌≤◌, ◌++◌, length, take};
+ghost use Rattle.std.specs.Prelude.{◌≡◌, ◌+◌, ◌≤◌, ◌++◌, OnOk, length, take};
 ghost use Rattle.print_table.specs.declared.gathered.TheConstants.{ROOM};
 
 use std::io;
@@ -7,6 +7,9 @@ use std::io::Write;
 
 // A write takes so many bytes at most.
 const ROOM: usize = 65536;
+
+// From here on a line may not fit: it has three numbers of at most 21 bytes, two spaces and its end.
+const NEARLY_FULL: usize = 65470;
 
 /// A stream, and what is to be written to it next.
 #[derive(Drop)]
@@ -37,8 +40,20 @@ impl<S: Write> Gathered<S> {
         self.len = start + bytes.len();
     }
 
+    /// Makes room for a line, so that a write has whole lines.
+    pub fn make_room(&mut self) -> io::Result<()>
+        ensures { OnOk result (self.new.len + 66 ≤ ROOM) }
+    {
+        if NEARLY_FULL < self.len {
+            self.write_out()?;
+        }
+        Ok(())
+    }
+
     // Writes what is gathered. Where that fails it is not tried again.
-    fn write_out(&mut self) -> io::Result<()> {
+    fn write_out(&mut self) -> io::Result<()>
+        ensures { self.new.len ≡ 0 }
+    {
         let len = self.len;
         self.len = 0;
         self.stream.write_all(&self.bytes[..len])

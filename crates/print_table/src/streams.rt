@@ -7,7 +7,8 @@ use std::rt::{Clock, Files};
 use std::time::Duration;
 use std::{fs, io, thread};
 
-// So often a call is tried that moves nothing and may succeed later, a millisecond apart: about ten seconds in which nothing moves.
+// So often a call that moved nothing and may succeed later is tried again, a millisecond after the last time: about ten
+// seconds in which nothing moves.
 const TRIES: u32 = 10000;
 
 // Standard output by its path.
@@ -53,7 +54,7 @@ impl<C: Clock, S: Read> Read for Patient<'_, C, S> {
                 Err(error) => self.wait_after(error)?,
             }
         }
-        Err(timed_out())
+        self.stream.read(buf).or(Err(timed_out()))
     }
 }
 
@@ -65,7 +66,7 @@ impl<C: Clock, S: Write> Write for Patient<'_, C, S> {
                 Err(error) => self.wait_after(error)?,
             }
         }
-        Err(timed_out())
+        self.stream.write(buf).or(Err(timed_out()))
     }
 
     fn flush(&mut self) -> io::Result<()> {

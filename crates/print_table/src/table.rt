@@ -1,4 +1,5 @@
 // The table that an input asks for, as lines of text.
+use crate::gathered::Gathered;
 use plans::{Ask, Refusal};
 use std::io;
 use std::io::Write;
@@ -49,7 +50,7 @@ impl Table<'_> {
     }
 
     // The head and the lines of all rows, one row after another: the whole table is never held.
-    fn write(&self, out: &mut impl Write) -> io::Result<()> {
+    fn write(&self, out: &mut Gathered<impl Write>) -> io::Result<()> {
         writeln!(out, "Q {} {}", self.bits, self.constant)?;
         let mut places = [0i64; MOST_BITS];
         for i in 0..self.bits as u64 {
@@ -60,11 +61,12 @@ impl Table<'_> {
 }
 
 // A line for each number of row i that is not 0.
-fn write_row(out: &mut impl Write, i: u64, row: &[i64]) -> io::Result<()> {
+fn write_row(out: &mut Gathered<impl Write>, i: u64, row: &[i64]) -> io::Result<()> {
     let mut digits = itoa::Buffer::new();
     let start = digits.format(i);
     for (j, z) in (i..).zip(row) {
         if *z != 0 {
+            out.make_room()?;
             write_entry(out, start, j, *z)?;
         }
     }
@@ -83,7 +85,7 @@ fn write_entry(out: &mut impl Write, start: &str, j: u64, z: i64) -> io::Result<
 }
 
 /// Writes the table that an input asks for, or the refusal.
-pub fn write_answer(out: &mut impl Write, input: &[u8]) -> io::Result<()> {
+pub fn write_answer(out: &mut Gathered<impl Write>, input: &[u8]) -> io::Result<()> {
     match Table::try_from(input) {
         Ok(table) => table.write(out),
         Err(refusal) => writeln!(out, "refused {}", refusal.number()),

@@ -44,6 +44,7 @@ pub fn print_bytes(rt: &impl Print, bytes: &[u8]) -> io::Result<()> {
 }
 
 /// In how many places two slices differ, as far as both go.
+// Not by `filter` and `count`: an image took a third more instructions.
 pub fn differing<T: PartialEq>(left: &[T], right: &[T]) -> usize {
     left.iter().zip(right).fold(0usize, |count, (a, b)| {
         count.wrapping_add(usize::from(a != b))

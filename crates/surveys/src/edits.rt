@@ -36,7 +36,7 @@ impl Edit {
     }
 
     /// Makes the edit; the number of its refusal, 0 for none, and how many bytes were altered.
-    // Not inlined, as are all that need room for a copy: every line would pay for it.
+    // Not inlined, and so none that needs room for a copy: every line would pay for it.
     #[inline(never)]
     pub fn show(self, rt: &impl Print, image: &mut [u8]) -> io::Result<()> {
         let old = copy_of(image);

@@ -1,4 +1,5 @@
 // A line is words with a space between them: the first says what is called, by its first letter, and the others are numbers or bytes written as digits.
+
 /// So many bytes a plan or its code has at most.
 pub const MOST_BYTES: usize = 128;
 
@@ -19,27 +20,22 @@ fn digit(letter: &u8) -> Option<u8> {
     letter.is_ascii_digit().then_some(letter.wrapping_sub(b'0'))
 }
 
-// A number with one more digit. No line has a number above 2^64 - 1; what the digits of one make is of no use.
-fn longer(n: u64, digit: u8) -> u64 {
-    n.checked_mul(10)
-        .unwrap_or(0)
-        .wrapping_add(u64::from(digit))
+// The number that the digits in a word make; other letters are passed over. No line has a number above 2^64 - 1; what the digits of one make is of no use.
+// Not by parse: letters among the digits are passed over, and numbers that are too large have an answer too.
+fn number(word: &[u8]) -> u64 {
+    word.iter().filter_map(digit).fold(0u64, |n, digit| {
+        n.checked_mul(10)
+            .unwrap_or(0)
+            .wrapping_add(u64::from(digit))
+    })
 }
 
-/// The words as numbers, from the second on; those that a line does not have are 0. Letters among the digits are passed
-/// over.
+/// The words as numbers, from the second on; those that a line does not have are 0.
 pub fn numbers(line: &[u8]) -> Numbers {
     let mut numbers = [0u64; 6];
-    // How many spaces there were: the first word is no number, and has no place.
-    let mut spaces = 0usize;
-    for letter in line {
-        if is_space(letter) {
-            spaces = spaces.saturating_add(1);
-        } else if let Some(digit) = digit(letter) {
-            if let Some(number) = numbers.get_mut(spaces.wrapping_sub(1)) {
-                *number = longer(*number, digit);
-            }
-        }
+    let words = line.split(is_space).skip(1);
+    for (place, word) in numbers.iter_mut().zip(words) {
+        *place = number(word);
     }
     numbers
 }
