@@ -1,5 +1,6 @@
 // What the library answers, as it is printed.
 use plans::{Decoded, Refusal};
+use std::io::Write;
 use std::{fmt, io};
 
 /// A space and a value, or the number of a refusal.
@@ -12,6 +13,17 @@ impl<T: fmt::Display> fmt::Display for Answer<T> {
             Ok(value) => write!(f, " {value}"),
             Err(refusal) => write!(f, " refused {}", refusal.number()),
         }
+    }
+}
+
+/// A space and a number; a sign is written with the space.
+#[derive(Clone, Copy)]
+pub struct Signed(pub i64);
+
+impl fmt::Display for Signed {
+    fn fmt<W: fmt::Write>(&self, f: &mut fmt::Formatter<W>) -> fmt::Result {
+        let start = if self.0 < 0 { " -" } else { " " };
+        write!(f, "{start}{}", self.0.unsigned_abs())
     }
 }
 
@@ -34,11 +46,11 @@ pub fn number<T: Drop>(answer: Result<T, Refusal>) -> u64 {
     }
 }
 
-/// Prints a space and the bytes as digits.
-pub fn print_bytes(rt: &impl Print, bytes: &[u8]) -> io::Result<()> {
-    print!(rt; " ")?;
+/// Writes a space and the bytes as digits.
+pub fn write_bytes(out: &mut impl Write, bytes: &[u8]) -> io::Result<()> {
+    write!(out, " ")?;
     for byte in bytes {
-        print!(rt; "{byte}")?;
+        write!(out, "{byte}")?;
     }
     Ok(())
 }

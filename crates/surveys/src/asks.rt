@@ -2,10 +2,11 @@
 // altered too: numbers lent are 77 at first, and bytes 7.
 ghost use Rattle.std.specs.Prelude.{◌≡◌, length, min};
 
-use crate::answers::{Answer, Decoding, differing, number, print_bytes};
+use crate::answers::{Answer, Decoding, Signed, differing, number, write_bytes};
 use crate::words::{self, MOST_BYTES, Numbers};
 use plans::Ask;
 use std::io;
+use std::io::Write;
 
 // How many numbers of a row are printed.
 const SHOWN: usize = 12;
@@ -28,11 +29,11 @@ pub fn lent<T>(places: &mut [T], count: u64) -> &mut [T]
 }
 
 /// `kind K P`: the bit count, the constant and A.
-pub fn show_kind(rt: &impl Print, image: &[u8], ask: Ask) -> io::Result<()> {
+pub fn show_kind(out: &mut impl Write, image: &[u8], ask: Ask) -> io::Result<()> {
     let bits = Answer(plans::bit_count(image, ask));
     let constant = Answer(plans::constant(image, ask));
     let penalty = Answer(plans::penalty(image, ask));
-    print!(rt; ":{bits}{constant}{penalty}")
+    write!(out, ":{bits}{constant}{penalty}")
 }
 
 /// `fill K P I COUNT`: row I, in so many places.
@@ -54,7 +55,7 @@ impl Row {
     /// differs, and what the first one leaves.
     // Not inlined: whoever has these places has a stack of 128 KB, which every line would pay for.
     #[inline(never)]
-    pub fn show(self, rt: &impl Print, image: &[u8]) -> io::Result<()> {
+    pub fn show(self, out: &mut impl Write, image: &[u8]) -> io::Result<()> {
         let mut places = [NUMBER; MOST_NUMBERS];
         let mut others = [NUMBER; MOST_NUMBERS];
         let places = lent(&mut places, self.count);
@@ -63,9 +64,9 @@ impl Row {
         let len = plans::row(image, self.ask, self.index, places).len();
         let filled = number(plans::fill_row(image, self.ask, self.index, others));
         let different = differing(places, others);
-        print!(rt; ": {refusal} {len} {filled} {different}")?;
+        write!(out, ": {refusal} {len} {filled} {different}")?;
         for z in places.iter().take(SHOWN) {
-            print!(rt; " {z}")?;
+            write!(out, "{}", Signed(*z))?;
         }
         Ok(())
     }
@@ -91,7 +92,7 @@ impl<'a> Coding<'a> {
     }
 
     /// Of the bits given: the energy, then the weight and how many meters were repaired, and the plan.
-    pub fn show_decode(self, rt: &impl Print, image: &[u8]) -> io::Result<()> {
+    pub fn show_decode(self, out: &mut impl Write, image: &[u8]) -> io::Result<()> {
         let mut bits = [BYTE; MOST_BYTES];
         let mut plan = [BYTE; MOST_BYTES];
         let bits = words::put_digits(self.word, &mut bits);
@@ -99,18 +100,18 @@ impl<'a> Coding<'a> {
         let energy = Answer(plans::energy(image, self.ask, bits));
         let decoded = plans::decode(image, self.ask, bits, plan);
         let decoding = Answer(decoded.map(Decoding));
-        print!(rt; ":{energy}{decoding}")?;
-        print_bytes(rt, plan)
+        write!(out, ":{energy}{decoding}")?;
+        write_bytes(out, plan)
     }
 
     /// Of the plan given: the number of the refusal, 0 for none, and the bits.
-    pub fn show_encode(self, rt: &impl Print, image: &[u8]) -> io::Result<()> {
+    pub fn show_encode(self, out: &mut impl Write, image: &[u8]) -> io::Result<()> {
         let mut plan = [BYTE; MOST_BYTES];
         let mut bits = [BYTE; MOST_BYTES];
         let plan = words::put_digits(self.word, &mut plan);
         let bits = lent(&mut bits, self.count);
         let refusal = number(plans::encode(image, self.ask, plan, bits));
-        print!(rt; ": {refusal}")?;
-        print_bytes(rt, bits)
+        write!(out, ": {refusal}")?;
+        write_bytes(out, bits)
     }
 }

@@ -6,6 +6,7 @@ use crate::session::LONGEST;
 use crate::words::{self, Numbers};
 use plans::Refusal;
 use std::io;
+use std::io::Write;
 
 // The bytes of an image; zeros behind them.
 fn copy_of(image: &[u8]) -> [u8; LONGEST] {
@@ -38,10 +39,10 @@ impl Edit {
     /// Makes the edit; the number of its refusal, 0 for none, and how many bytes were altered.
     // Not inlined, and so none that needs room for a copy: every line would pay for it.
     #[inline(never)]
-    pub fn show(self, rt: &impl Print, image: &mut [u8]) -> io::Result<()> {
+    pub fn show(self, out: &mut impl Write, image: &mut [u8]) -> io::Result<()> {
         let old = copy_of(image);
         let refusal = number(self.make(image));
-        print!(rt; ": {refusal}, altered {}", differing(&old, image))
+        write!(out, ": {refusal}, altered {}", differing(&old, image))
     }
 }
 
@@ -77,14 +78,14 @@ impl Circle {
     }
 
     /// Adds the links; how many are accepted.
-    pub fn show(self, rt: &impl Print, image: &mut [u8]) -> io::Result<()> {
+    pub fn show(self, out: &mut impl Write, image: &mut [u8]) -> io::Result<()> {
         let mut accepted = 0u64;
         for k in 0..self.count {
             if self.add_link(image, k) {
                 accepted += 1;
             }
         }
-        print!(rt; ": accepted {accepted}")
+        write!(out, ": accepted {accepted}")
     }
 }
 
@@ -114,22 +115,25 @@ impl Byte {
 
     /// `try AT BYTE`: of calls with a copy of the image that has the byte, the numbers of the refusals, 0 for none, and how many bytes they altered together.
     #[inline(never)]
-    pub fn show_calls(self, rt: &impl Print, image: &[u8]) -> io::Result<()> {
+    pub fn show_calls(self, out: &mut impl Write, image: &[u8]) -> io::Result<()> {
         let mut copy = copy_of(image);
         let lent = image.len().min(LONGEST);
         let image = &mut copy[..lent];
         self.set(image);
         let old = copy_of(image);
-        print_calls(rt, image)?;
-        print!(rt; ", altered {}", differing(&old, image))
+        write_calls(out, image)?;
+        write!(out, ", altered {}", differing(&old, image))
     }
 }
 
-fn print_calls(rt: &impl Print, image: &mut [u8]) -> io::Result<()> {
+fn write_calls(out: &mut impl Write, image: &mut [u8]) -> io::Result<()> {
     let check = number(site::check(image));
     let added = number(plans::add(image, 3, 4, 9));
     let removed = number(plans::remove(image, 1, 2));
     let mut links = site::NO_LINKS;
     let read = number(site::read(image, &mut links));
-    print!(rt; ": check {check}, add {added}, remove {removed}, read {read}")
+    write!(
+        out,
+        ": check {check}, add {added}, remove {removed}, read {read}"
+    )
 }

@@ -17,7 +17,7 @@ ghost use Rattle.std.specs.Prelude.{◌≤◌, length, IfOk};
 
 use crate::session::Session;
 use std::io;
-use std::io::Read;
+use std::io::{Read, Write};
 
 // So many bytes of input are read; lines behind them are not carried out.
 const MOST_READ: usize = 32768;
@@ -42,13 +42,13 @@ fn is_newline(letter: &u8) -> bool {
 }
 
 // Line by line; the last one may have no end. A line need not be text.
-fn carry_out_all(rt: &impl Print, text: &[u8]) -> io::Result<()> {
+fn carry_out_all(out: &mut impl Write, text: &[u8]) -> io::Result<()> {
     let mut session = Session::new();
     if text.is_empty() {
         return Ok(());
     }
     for line in text.strip_suffix(b"\n").unwrap_or(text).split(is_newline) {
-        session.carry_out(rt, line)?;
+        session.carry_out(out, line)?;
     }
     Ok(())
 }
@@ -57,5 +57,5 @@ fn carry_out_all(rt: &impl Print, text: &[u8]) -> io::Result<()> {
 fn main(rt: HostRuntime) -> io::Result<()> {
     let mut places = [0u8; MOST_READ];
     let count = read_whole(&mut rt.stdin(), &mut places)?;
-    carry_out_all(&rt, &places[..count])
+    carry_out_all(&mut io::writer(&rt), &places[..count])
 }

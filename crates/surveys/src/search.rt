@@ -1,10 +1,12 @@
 // Tries all plans or all assignments, and finds the least energy.
 ghost use Rattle.std.specs.Prelude.{◌≤◌};
 
+use crate::answers::Signed;
 use crate::asks::{BYTE, lent};
 use crate::words::{MOST_BYTES, Numbers};
 use plans::{Ask, Refusal};
 use std::io;
+use std::io::Write;
 
 // So many are tried at most.
 const MOST_TRIED: u64 = 100000;
@@ -77,7 +79,7 @@ impl Search {
 
     /// Tries them: how many there are, how many are plans, how many are refused by 12, and the least energy. Bits that a
     /// refusal left as they were are no code (7 is no bit) or that of an earlier plan.
-    pub fn show(&self, rt: &impl Print, image: &[u8]) -> io::Result<()> {
+    pub fn show(&self, out: &mut impl Write, image: &[u8]) -> io::Result<()> {
         let mut plan = [BYTE; MOST_BYTES];
         let mut bits = [BYTE; MOST_BYTES];
         let plan = lent(&mut plan, self.bytes);
@@ -95,9 +97,13 @@ impl Search {
                 least = Some(least.map_or(energy, |least| least.min(energy)));
             }
         }
-        print!(rt; ": of {} plans {accepted}, give 12 {refused}", self.count)?;
+        write!(
+            out,
+            ": of {} plans {accepted}, give 12 {refused}",
+            self.count
+        )?;
         match least {
-            Some(energy) => print!(rt; ", least energy {energy}"),
+            Some(energy) => write!(out, ", least energy{}", Signed(energy)),
             None => Ok(()),
         }
     }

@@ -2,6 +2,7 @@
 use crate::command::Command;
 use crate::{asks, readings};
 use std::io;
+use std::io::Write;
 
 // So many bytes are lent as the image at first, and one more at most.
 const IMAGE: usize = 2064;
@@ -29,26 +30,26 @@ impl Session {
     }
 
     /// Carries out a line, and prints it with what the library answers.
-    pub fn carry_out(&mut self, rt: &impl Print, line: &[u8]) -> io::Result<()> {
-        rt.write_all(line)?;
+    pub fn carry_out(&mut self, out: &mut impl Write, line: &[u8]) -> io::Result<()> {
+        out.write_all(line)?;
         let command = Command::parse(line, self.margin);
         let lent = self.lent.min(LONGEST);
         let image = &mut self.bytes[..lent];
         match command {
-            Command::Edit(edit) => edit.show(rt, image)?,
-            Command::Circle(circle) => circle.show(rt, image)?,
+            Command::Edit(edit) => edit.show(out, image)?,
+            Command::Circle(circle) => circle.show(out, image)?,
             Command::Lend(len) => self.lent = len,
             Command::Set(byte) => byte.set(image),
-            Command::Try(byte) => byte.show_calls(rt, image)?,
+            Command::Try(byte) => byte.show_calls(out, image)?,
             Command::With(margin) => self.margin = margin,
-            Command::Image => readings::show(rt, image)?,
-            Command::Kind(ask) => asks::show_kind(rt, image, ask)?,
-            Command::Fill(row) => row.show(rt, image)?,
-            Command::Decode(coding) => coding.show_decode(rt, image)?,
-            Command::Encode(coding) => coding.show_encode(rt, image)?,
-            Command::Search(search) => search.show(rt, image)?,
+            Command::Image => readings::show(out, image)?,
+            Command::Kind(ask) => asks::show_kind(out, image, ask)?,
+            Command::Fill(row) => row.show(out, image)?,
+            Command::Decode(coding) => coding.show_decode(out, image)?,
+            Command::Encode(coding) => coding.show_encode(out, image)?,
+            Command::Search(search) => search.show(out, image)?,
             Command::Remark => {}
         }
-        rt.write_all(b"\n")
+        out.write_all(b"\n")
     }
 }
